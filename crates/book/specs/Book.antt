@@ -1,0 +1,114 @@
+-- The revocation book: its records, its limits, and refusals 1 to 6 in document 01's order.
+use Prim.Native.Nat.{ℕ, zero, suc, _+_, _-_, _*_, _^_}
+use mathlib.Core.Bool.{Bool, true, false, _||_}
+use mathlib.Core.List.{List, [], _∷_, _++_}
+use lib.Dec.{leb, ltb, eqb}
+use lib.ListN.{length, getD, take, drop}
+use Rattle.rules.specs.Lists.{same, any}
+use Rattle.rules.specs.Tokens.{total}
+
+-- The limits of a book: tokens, body bytes, and the length of an image that is swept with it.
+abbrev pub maxTokens : ℕ
+maxTokens = 256
+
+abbrev pub maxBodies : ℕ
+maxBodies = 16384
+
+abbrev pub maxImage : ℕ
+maxImage = 16777216
+
+-- the longest body that a kind can have
+abbrev pub maxBody : ℕ
+maxBody = 1024
+
+-- What a call answers that may be refused: a result, or a refusal's number and value.
+pub data Verdict (A : Type 0) : Type 0 where
+  accepted : A → Verdict A
+  refused : ℕ → ℕ → Verdict A
+
+-- Reading a book gives its tokens in book order.
+abbrev pub Reading : Type 0
+Reading = Verdict (List (List ℕ))
+
+-- The body's length for a kind from 01h to 44h.
+abbrev pub bodyLength : ℕ → ℕ
+bodyLength kind = elim (leb kind 64) [ true ↦ kind | false ↦ 128 * 2 ^ (kind - 65) ]
+
+-- The record at place `at`: its kind, its body's length, its body.
+module _ (book : List ℕ) (at : ℕ) where
+  abbrev pub kindAt : ℕ
+  kindAt = getD book at 0
+
+  abbrev pub sizeAt : ℕ
+  sizeAt = bodyLength kindAt
+
+  abbrev pub bodyAt : List ℕ
+  bodyAt = take sizeAt (drop (at + 1) book)
+
+  -- Refusal 1, value the book's length: the kind byte is missing.
+  abbrev pub kindMissing : Bool
+  kindMissing = leb (length book) at
+
+  -- Refusal 2: the kind is above 44h.
+  abbrev pub kindUnknown : Bool
+  kindUnknown = ltb 68 kindAt
+
+  -- Kind 00h closes the book.
+  abbrev pub closes : Bool
+  closes = eqb kindAt 0
+
+  -- Refusal 1, value the record's place: the body is cut short.
+  abbrev pub bodyShort : Bool
+  bodyShort = ltb (length book) (at + 1 + sizeAt)
+
+  -- Refusal 5: token 257, or body bytes over 16,384.
+  abbrev pub overLimits : List (List ℕ) → Bool
+  overLimits tokens = leb maxTokens (length tokens) || ltb maxBodies (total tokens + sizeAt)
+
+  -- Refusal 4: the body equals an earlier one.
+  abbrev pub repeats : List (List ℕ) → Bool
+  repeats tokens = any (same bodyAt) tokens
+
+  -- Refusal 3: bytes follow 00h.
+  abbrev pub trailing : Bool
+  trailing = ltb (at + 1) (length book)
+
+-- Refusal 6: no token.
+abbrev pub noToken : List (List ℕ) → Bool
+noToken tokens = eqb (length tokens) 0
+
+-- After 00h at place `at`: 3, then 6.
+abbrev pub closed : List ℕ → ℕ → List (List ℕ) → Reading
+closed book at tokens =
+    elim (trailing book at) [
+      | true ↦ refused 3 (at + 1)
+      | false ↦ elim (noToken tokens) [ true ↦ refused 6 0 | false ↦ accepted tokens ]
+    ]
+
+-- From the record at place `at` on, with the tokens before it: 1 for a missing kind, 2, 1 for a short body, 5, 4.
+abbrev pub readFrom : List ℕ → ℕ → ℕ → List (List ℕ) → Reading
+readFrom book zero at tokens = refused 1 (length book)
+readFrom book (suc fuel) at tokens =
+    elim (kindMissing book at) [
+      | true ↦ refused 1 (length book)
+      | false ↦ elim (kindUnknown book at) [
+        | true ↦ refused 2 at
+        | false ↦ elim (closes book at) [
+          | true ↦ closed book at tokens
+          | false ↦ elim (bodyShort book at) [
+            | true ↦ refused 1 at
+            | false ↦ elim (overLimits book at tokens) [
+              | true ↦ refused 5 at
+              | false ↦ elim (repeats book at tokens) [
+                | true ↦ refused 4 at
+                | false ↦ readFrom book fuel (at + 1 + sizeAt book at) (tokens ++ (bodyAt book at ∷ []))
+              ]
+            ]
+          ]
+        ]
+      ]
+    ]
+
+-- The whole book. A record takes a byte at least, so its length is fuel enough.
+abbrev pub readBook : List ℕ → Reading
+readBook book = readFrom book (suc (length book)) 0 []

@@ -1,0 +1,1 @@
+// The revocation book: its records and what is refused.

@@ -1,0 +1,82 @@
+-- Bytes read from the right, off a function from places to bytes.
+use Prim.Native.Nat.{ℕ, suc, _+_, _-_, _≤_, _<_}
+use native.Mathlib.Omega.{arith}
+use native.Mathlib.Decide.{ℕ-discrete}
+use mathlib.Core.Path.{_≡_, ap, sym, _∙_}
+use mathlib.Core.Bool.{true}
+use mathlib.Core.List.{List, [], _∷_}
+use borrow.Author.Tests.{le-leb}
+use lib.ListN.{length, getD, take, drop, length-drop, length-take}
+use lib.Seq.{getD-drop, getD-take, ext-getD}
+use Rattle.rules.specs.Tokens.{ends, fromRight}
+use Rattle.rules.specs.Sweep.{Stands}
+use Rattle.rules.specs.Laws.Endings.{same-refl}
+
+module _ (img : ℕ → ℕ) where
+  -- `u` stands just before place b
+  abbrev pub Reads : List ℕ → ℕ → Type 0
+  Reads u b = (k : ℕ) → k < length u → fromRight u k ≡ img (b - 1 - k)
+
+  -- by the index from the left
+  reads-at : (u : List ℕ) (b : ℕ) → Reads u b → (i : ℕ) → i < length u → getD u i 0 ≡ img (b - 1 - (length u - 1 - i))
+  reads-at u b r i h =
+      let z : length u - 1 - (length u - 1 - i) ≡ i = omega arith in
+      rw z at (r (length u - 1 - i) (omega arith))
+
+  pub reads-eq : (u t : List ℕ) (b : ℕ) → Reads u b → Reads t b → length u ≡ length t → u ≡ t
+  reads-eq u t b r q e =
+      ext-getD 0 u t e λ i h. reads-at u b r i h ∙ ap (λ (n : ℕ). img (b - 1 - (n - 1 - i))) e ∙ sym (reads-at t b q i (omega arith))
+
+  pub reads-drop : (j : ℕ) (u : List ℕ) (b : ℕ) → Reads u b → Reads (drop j u) b
+  reads-drop j u b r k h =
+      let l : length (drop j u) ≡ length u - j = length-drop j u in
+      let z : j + (length (drop j u) - 1 - k) ≡ length u - 1 - k = omega arith in
+      getD-drop j u (length (drop j u) - 1 - k) 0 ∙ rw z (r k (omega arith))
+
+  pub reads-cons : (x : ℕ) (u : List ℕ) (b : ℕ) → Reads u b → x ≡ img (b - 1 - length u) → Reads (x ∷ u) b
+  reads-cons x u b r e k h = go (ℕ-discrete k (length u))
+    where
+      go : Dec (k ≡ length u) → getD (x ∷ u) (suc (length u) - 1 - k) 0 ≡ img (b - 1 - k)
+      go (yes q) = let z : suc (length u) - 1 - k ≡ 0 = omega arith in rw (z, q) e
+      go (no q) = let z : suc (length u) - 1 - k ≡ suc (length u - 1 - k) = omega arith in rw z (r k (omega arith))
+
+  pub reads-ends : (u t : List ℕ) (b : ℕ) → Reads u b → Reads t b → length u ≤ length t → ends u t ≡ true
+  reads-ends u t b r q h =
+      let e : u ≡ drop (length t - length u) t = reads-eq u _ b r (reads-drop (length t - length u) t b q) (rw length-drop (omega arith)) in
+      cc (le-leb (length u) (length t) h, same-refl u)
+
+abbrev pub byteOf : List ℕ → ℕ → ℕ
+byteOf image p = getD image p 0
+
+-- A token that stands in the image with its right edge at e is read there, and the other way round.
+module _ (tokens : List (List ℕ)) (image : List ℕ) (e i : ℕ) where
+  abbrev t : List ℕ
+  t = getD tokens i []
+
+  pub stands→reads : Stands tokens image e i → Reads (byteOf image) (getD tokens i []) e
+  stands→reads s k h =
+      let z : e - length t + (length t - 1 - k) ≡ e - 1 - k = omega arith in
+      ap (λ (l : List ℕ). getD l (length t - 1 - k) 0) (sym (s .bytes))
+      ∙ getD-take (length t) (drop (e - length t) image) (length t - 1 - k) 0 (omega arith)
+      ∙ getD-drop (e - length t) image (length t - 1 - k) 0
+      ∙ ap (byteOf image) z
+
+  pub reads→stands : i < length tokens → length (getD tokens i []) ≤ e → e ≤ length image → Reads (byteOf image) (getD tokens i []) e
+      → Stands tokens image e i
+  reads→stands i< h n r = record {
+    numbered = i<;
+    fits = h;
+    inside = n;
+    bytes = ext-getD 0 (take (length t) (drop (e - length t) image)) t l (λ j j<. at j (omega (arith, l)));
+  }
+    where
+      l : length (take (length t) (drop (e - length t) image)) ≡ length t
+      l = simp (length-take, length-drop) (omega arith)
+
+      at : (j : ℕ) → j < length t → getD (take (length t) (drop (e - length t) image)) j 0 ≡ getD t j 0
+      at j j< =
+          let z : e - length t + j ≡ e - 1 - (length t - 1 - j) = omega arith in
+          getD-take (length t) (drop (e - length t) image) j 0 j<
+          ∙ getD-drop (e - length t) image j 0
+          ∙ ap (byteOf image) z
+          ∙ sym (reads-at (byteOf image) t e r j j<)

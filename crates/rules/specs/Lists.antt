@@ -1,0 +1,37 @@
+-- Tests and searches on lists of bytes, in which the other definitions are written.
+use Prim.Native.Nat.{ℕ, zero, suc, _+_}
+use mathlib.Core.Bool.{Bool, true, false, _&&_, _||_}
+use mathlib.Core.List.{List, [], _∷_}
+use lib.Dec.{eqb}
+
+-- the elements that pass
+abbrev pub filter {ℓ} : {A : Type ℓ} → (A → Bool) → List A → List A
+filter p [] = []
+filter p (a ∷ rest) = elim (p a) [ true ↦ a ∷ filter p rest | false ↦ filter p rest ]
+
+-- some element passes
+abbrev pub any {ℓ} : {A : Type ℓ} → (A → Bool) → List A → Bool
+any p [] = false
+any p (a ∷ rest) = p a || any p rest
+
+-- each number below n passes
+abbrev pub every : ℕ → (ℕ → Bool) → Bool
+every zero p = true
+every (suc n) p = p n && every n p
+
+-- the smallest number from `from` on that passes, or from + fuel
+abbrev pub least : (ℕ → Bool) → ℕ → ℕ → ℕ
+least p from zero = from
+least p from (suc fuel) = elim (p from) [ true ↦ from | false ↦ least p (from + 1) fuel ]
+
+-- the two hold the same bytes
+abbrev pub same : List ℕ → List ℕ → Bool
+same [] [] = true
+same [] (y ∷ ys) = false
+same (x ∷ xs) [] = false
+same (x ∷ xs) (y ∷ ys) = eqb x y && same xs ys
+
+-- the number of the first that is `u`, counted from i, or 0
+abbrev pub numberFrom : ℕ → List ℕ → List (List ℕ) → ℕ
+numberFrom i u [] = 0
+numberFrom i u (t ∷ ts) = elim (same u t) [ true ↦ i | false ↦ numberFrom (i + 1) u ts ]

@@ -1,0 +1,1 @@
+-- Sample sweeps by the rules over tokens, as one table.

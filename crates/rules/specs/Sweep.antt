@@ -1,0 +1,82 @@
+-- A whole sweep by the rules over the tokens, what it fetches and finds, and what it should: the occurrences, and the limits.
+use Prim.Native.Nat.{ℕ, zero, suc, _+_, _-_, _*_, _/_, _^_, _≤_, _<_}
+use mathlib.Core.Path.{_≡_}
+use mathlib.Core.List.{List, [], _∷_, List·Memᴰ}
+use lib.ListN.{length, getD, take, drop}
+use Rattle.rules.specs.Rules.{Event, fetched, recalled, hit, shifted, done, trace, fresh}
+use Rattle.rules.specs.Tokens.{ofTokens, shortestOf, longestOf}
+
+-- All that happens in an image of n bytes when the k-th fetch gets `ask k place`. The steps are enough (`Laws.Limit.Ends`).
+unfoldable pub happens : List (List ℕ) → ℕ → (ℕ → ℕ → ℕ) → List (Event (List ℕ))
+happens tokens n ask =
+    let tree = ofTokens tokens (shortestOf tokens) in
+    trace tree n ask (suc n * (longestOf tokens + 2)) 0 (fresh tree (shortestOf tokens))
+
+-- The bytes of an unchanging image, whenever they are asked for.
+abbrev pub bytesOf : List ℕ → ℕ → ℕ → ℕ
+bytesOf image k at = getD image at 0
+
+-- The places fetched, in order.
+abbrev pub places : {E : Type 0} → List (Event E) → List ℕ
+places [] = []
+places (fetched p ∷ es) = p ∷ places es
+places (recalled p ∷ es) = places es
+places (hit e i ∷ es) = places es
+places (shifted b ss ∷ es) = places es
+places (done ∷ es) = places es
+
+-- The hits, in order: end and token.
+abbrev pub hits : {E : Type 0} → List (Event E) → List (ℕ × ℕ)
+hits [] = []
+hits (fetched p ∷ es) = hits es
+hits (recalled p ∷ es) = hits es
+hits (hit e i ∷ es) = (e, i) ∷ hits es
+hits (shifted b ss ∷ es) = hits es
+hits (done ∷ es) = hits es
+
+-- An occurrence: token i (from 0) stands in the image with its right edge at e (document 01: end).
+pub record Stands (tokens : List (List ℕ)) (image : List ℕ) (e i : ℕ) : Type 0 where
+  pub numbered : i < length tokens
+  pub fits : length (getD tokens i []) ≤ e
+  pub inside : e ≤ length image
+  pub bytes : take (length (getD tokens i [])) (drop (e - length (getD tokens i [])) image) ≡ getD tokens i []
+
+-- each element stands one time
+abbrev pub Once : List (ℕ × ℕ) → Type 0
+Once [] = Unit {0}
+Once (h ∷ hs) = (List·Memᴰ h hs → ⊥) × Once hs
+
+-- the ends never fall along the list
+abbrev pub Ordered : List (ℕ × ℕ) → Type 0
+Ordered [] = Unit {0}
+Ordered (h ∷ hs) = ((e i : ℕ) → List·Memᴰ (e, i) hs → h .0 ≤ e) × Ordered hs
+
+-- The hits are exactly the occurrences, each one time, from left to right.
+pub record Occurrences (tokens : List (List ℕ)) (image : List ℕ) (found : List (ℕ × ℕ)) : Type 0 where
+  pub sound : (e i : ℕ) → List·Memᴰ (e, i) found → Stands tokens image e (i - 1) × (1 ≤ i)
+  pub complete : (e i : ℕ) → Stands tokens image e i → List·Memᴰ (e, i + 1) found
+  pub once : Once found
+  pub ordered : Ordered found
+
+-- the number of base-4 digits of m, with fuel, of which m is enough
+abbrev pub digitsIn : ℕ → ℕ → ℕ
+digitsIn zero m = 0
+digitsIn (suc fuel) zero = 0
+digitsIn (suc fuel) (suc m) = suc (digitsIn fuel (suc m / 4))
+
+-- K, the number of base-4 digits of D
+abbrev pub digits4 : ℕ → ℕ
+digits4 m = digitsIn m m
+
+-- The most bytes that may be fetched from an image of n bytes: N + (4N + D) × K.
+abbrev pub limit : ℕ → ℕ → ℕ
+limit n d = n + (4 * n + d) * digits4 d
+
+-- Each round leaves k stretches with 4^k at most D, fewer than K.
+abbrev pub Few : {E : Type 0} → ℕ → List (Event E) → Type 0
+Few d [] = Unit {0}
+Few d (fetched p ∷ es) = Few d es
+Few d (recalled p ∷ es) = Few d es
+Few d (hit e i ∷ es) = Few d es
+Few d (shifted b ss ∷ es) = (4 ^ length ss ≤ d) × Few d es
+Few d (done ∷ es) = Few d es

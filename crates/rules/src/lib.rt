@@ -1,0 +1,1 @@
+// The reading rules: definitions and laws, no code.

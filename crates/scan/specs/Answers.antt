@@ -1,0 +1,36 @@
+-- What the calls are to answer, read off the rules' events.
+use Prim.Native.Nat.{ℕ}
+use mathlib.Core.Bool.{Bool, true, false}
+use mathlib.Core.List.{List, [], _∷_}
+use Rattle.rules.specs.Rules.{Event, fetched, recalled, hit, shifted, done}
+use Rattle.scan.specs.Calls.{Answer, fetch, found, over, refused}
+
+-- The answers to the calls in turn, in order; after them, done.
+abbrev pub answers : {E : Type 0} → List (Event E) → List Answer
+answers [] = []
+answers (fetched p ∷ es) = fetch p ∷ answers es
+answers (recalled p ∷ es) = answers es
+answers (hit e i ∷ es) = found e i ∷ answers es
+answers (shifted b ss ∷ es) = answers es
+answers (done ∷ es) = over ∷ []
+
+abbrev pub first : List Answer → Answer
+first [] = over
+first (a ∷ rest) = a
+
+abbrev pub later : List Answer → List Answer
+later [] = []
+later (a ∷ rest) = rest
+
+abbrev pub isRefused : Answer → Bool
+isRefused (fetch p) = false
+isRefused (found e i) = false
+isRefused over = false
+isRefused (refused k v) = true
+
+-- A byte is due after this answer.
+abbrev pub isFetch : Answer → Bool
+isFetch (fetch p) = true
+isFetch (found e i) = false
+isFetch over = false
+isFetch (refused k v) = false

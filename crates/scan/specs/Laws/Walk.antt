@@ -1,0 +1,136 @@
+-- What holds of a configuration that the calls come to, over tables that represent the tokens; the rules keep it.
+use Prim.Native.Nat.{ℕ, zero, suc, _+_, _-_, _≤_, _<_}
+use native.Mathlib.Nat.{le-trans}
+use native.Mathlib.Numerals.{add-one}
+use native.Mathlib.Omega.{arith}
+use mathlib.Core.Path.{_≡_, refl, subst}
+use mathlib.Core.Bool.{Bool}
+use mathlib.Core.List.{List, _++_}
+use mathlib.Core.Option.{Option, some, none}
+use lib.ListN.{length, length-drop}
+use Rattle.rules.specs.Rules.{Config, Event, Step, Next, finished, wants, goes, fresh, take, next}
+use Rattle.rules.specs.Lists.{least}
+use Rattle.rules.specs.Tokens.{nodeShift, byteShift, shiftOf, grown, ofTokens}
+use Rattle.rules.specs.Laws.Setting.{Setting}
+use Rattle.rules.specs.Laws.Tests.{decide}
+use Rattle.rules.specs.Laws.Limit.{Fine, FineStep, FineNext, next-fine, fresh-fine}
+use Rattle.rules.specs.Laws.Limit.Ends.{stepsLeft, Finite}
+use Rattle.rules.specs.Laws.Exact.{tokens-finite}
+use Rattle.rules.specs.Laws.Image.{configOf, nextOf, stepOf}
+use Rattle.rules.specs.Laws.Alike.{Both, Alike, Apt, AptNext, take-same, take-apt, next-same, next-apt}
+use Rattle.trie.specs.Tables.{Tables}
+use Rattle.trie.specs.Walks.{childBy, ending, words, ofTables}
+use Rattle.trie.specs.Laws.Nodes.{Stand}
+use Rattle.trie.specs.Laws.Represents.{Represents}
+use Rattle.scan.specs.Answers.{answers}
+use Rattle.scan.specs.Calls.{hitIn}
+use Rattle.scan.specs.Laws.Mild.{answered, Mild, MildNext, next-mild}
+
+-- A shift is at most the length of the shortest token.
+least-upto : (p : ℕ → Bool) (i fuel : ℕ) → least p i fuel ≤ i + fuel
+least-upto p i zero = omega arith
+least-upto p i (suc fuel) = decide (λ m. m ≤ i + suc fuel) (p i) _ _ (λ _. omega arith) (λ _. omega (arith, least-upto p (i + 1) fuel))
+
+shift-upto : (tokens : List (List ℕ)) (S : ℕ) → 1 ≤ S → (u : List ℕ) (o : Option ℕ) → shiftOf tokens S u o ≤ S
+shift-upto tokens S h u o = omega (arith, node, byte o)
+  where
+    node : nodeShift tokens S u ≤ S
+    node = le-trans (least-upto _ 1 (S - 1)) (omega arith)
+
+    byte : (o : Option ℕ) → byteShift tokens S (length u) o ≤ S
+    byte none = h
+    byte (some x) = le-trans (least-upto _ 1 (S - 1)) (omega arith)
+
+-- The tables' tree and the tokens' are alike.
+tables-alike : (tokens : List (List ℕ)) (S D : ℕ) → Setting tokens S D → (t : Tables) (count : ℕ) → Represents t count tokens
+    → Alike (ofTables t count S) (ofTokens tokens S) (ending t) (λ v. v < count) length
+tables-alike tokens S D setting t count rep = record {
+  root-in = rep .some-node;
+  root = rep .root;
+  bare = refl;
+  child = λ v x h. both (childBy t count v x) (grown tokens (ending t v) x) (rep .child v x h);
+  grows = λ u x w e. tokens-finite tokens S D setting .grows u x w e .0;
+  leaf = rep .leaf;
+  token = rep .token;
+  byteAt = rep .byteAt S;
+  ancestor-in = λ v k h i. rep .ancestor S v k h i .0;
+  ancestor = λ v k h i. rep .ancestor S v k h i .1;
+  lifted = λ u k i. rw length-drop (omega arith);
+  shift = λ v o h. rep .shift S (ending t v) o;
+}
+  where
+    both : (o : Option ℕ) (q : Option (List ℕ)) → Stand t count o q → Both (ending t) (λ v. v < count) o q
+    both none none h = h
+    both none (some u) h = h
+    both (some w) none h = h
+    both (some w) (some u) h = h
+
+-- What is given: the tokens of a book, tables that represent them, and an image's length.
+pub record Given (tokens : List (List ℕ)) (S D : ℕ) (t : Tables) (count n : ℕ) : Type 0 where
+  pub setting : Setting tokens S D
+  pub long : 1 ≤ D
+  pub short : D ≤ 1024
+  pub first : S ≤ 1024
+  pub represents : Represents t count tokens
+  pub nodes : count ≤ 16385
+  pub image : n ≤ 16777216
+
+module _ {tokens : List (List ℕ)} {S D : ℕ} {t : Tables} {count n : ℕ} (given : Given tokens S D t count n) where
+  pub alike : Alike (ofTables t count S) (ofTokens tokens S) (ending t) (λ v. v < count) length
+  alike = tables-alike tokens S D (given .setting) t count (given .represents)
+
+  pub finite : Finite (ofTokens tokens S) length D
+  finite = tokens-finite tokens S D (given .setting)
+
+  -- A configuration that the calls come to after k bytes.
+  pub record Sat (c : Config ℕ) (k : ℕ) : Type 0 where
+    pub apt : Apt alike c
+    pub fine : Fine length D S n (configOf (ending t) c) k
+    pub near : c .boundary ≤ n + 1024
+
+  -- A step from c that ends after k bytes.
+  pub record SatStep (c : Config ℕ) (k : ℕ) (w : Step ℕ) : Type 0 where
+    pub sat : Sat (w .config) k
+    pub early : c .boundary ≤ n
+    pub less : stepsLeft n D (w .config .boundary) (w .config .depth) < stepsLeft n D (c .boundary) (c .depth)
+    pub quiet : (rest : List (Event ℕ)) → answers (w .events ++ rest) ≡ answered (hitIn (w .events)) (answers rest)
+
+  abbrev pub SatNext : Config ℕ → ℕ → Next ℕ → Type 0
+  SatNext c k finished = n < c .boundary
+  SatNext c k (wants at) = (x : ℕ) → SatStep c (k + 1) (take (ofTables t count S) c x)
+  SatNext c k (goes w) = SatStep c k w
+
+  module _ (c : Config ℕ) (k : ℕ) (sat : Sat c k) where
+    step-sat : (w : Step ℕ) (m : ℕ) → Apt alike (w .config)
+        → FineStep length D S n (configOf (ending t) c) m (stepOf (ending t) w) → Mild n S c w → SatStep c m w
+    step-sat w m a f g = record {
+      sat = record { apt = a; fine = f .fine; near = omega (arith, g .near, given .first) };
+      early = g .early;
+      less = f .less;
+      quiet = g .quiet;
+    }
+
+    cases : (x : Next ℕ) → AptNext alike c (sat .apt) x
+        → FineNext (ofTokens tokens S) length D S n (configOf (ending t) c) k (nextOf (ending t) x)
+        → MildNext (ofTables t count S) n S c x → SatNext c k x
+    cases finished a f g = f
+    cases (wants at) a f g = λ x.
+        rw (add-one k) (step-sat _ (suc k) (take-apt alike c (sat .apt) x)
+        (subst (FineStep length D S n (configOf (ending t) c) (suc k)) (take-same alike c (sat .apt) x) (f x)) (g x))
+    cases (goes w) a f g = step-sat w k a f g
+
+    pub next-sat : SatNext c k (next (ofTables t count S) n c)
+    next-sat =
+        cases (next (ofTables t count S) n c)
+        (next-apt alike c (sat .apt) n)
+        (subst (FineNext (ofTokens tokens S) length D S n (configOf (ending t) c) k)
+        (next-same alike c (sat .apt) n)
+        (next-fine (ofTokens tokens S) length D S finite (given .long) (given .setting .positive) n k (configOf (ending t) c) (sat .fine)))
+        (next-mild (ofTables t count S) n S (λ v. shift-upto (words t count) S (given .setting .positive) (ending t v)) c)
+
+  pub fresh-sat : Sat (fresh (ofTables t count S) S) 0
+  fresh-sat = record {
+    apt = record { node = given .represents .some-node; sized = refl; stretches = tt };
+    fine = fresh-fine (ofTokens tokens S) length D S finite (given .long) (given .setting .positive) n;
+    near = omega (arith, given .first);
+  }

@@ -1,0 +1,6 @@
+-- The sweep by single bytes: the scan state, starting, the two calls, and what they are to answer; laws.
+pub mod State
+pub mod Start
+pub mod Calls
+pub mod Answers
+pub mod Laws

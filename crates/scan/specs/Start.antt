@@ -1,0 +1,31 @@
+-- Starting a sweep by single bytes (refusal 8).
+use Prim.Native.Nat.{ℕ}
+use mathlib.Core.Bool.{Bool, true, false}
+use mathlib.Core.List.{[]}
+use lib.Dec.{ltb}
+use Rattle.book.specs.Book.{Verdict, accepted, refused, maxImage}
+use Rattle.scan.specs.State.{Scan}
+
+-- b is S, the node the root, all else 0.
+abbrev pub started : ℕ → ℕ → ℕ → Scan
+started n shortest count = record {
+  image = n;
+  shortest = shortest;
+  count = count;
+  config = record { boundary = shortest; node = 0; depth = 0; stretches = [] };
+  due = false;
+  supplied = 0;
+}
+
+-- Refusal 8: the image is over its limit.
+abbrev pub tooLong : ℕ → Bool
+tooLong n = ltb maxImage n
+
+-- Starting takes N, S and the number of nodes, and tests N alone.
+abbrev pub start : ℕ → ℕ → ℕ → Verdict Scan
+start n shortest count = elim (tooLong n) [ true ↦ refused 8 maxImage | false ↦ accepted (started n shortest count) ]
+
+-- The state that is handed back: of zeros where starting is refused, so that a step from it meets 10.
+abbrev pub stateOf : Verdict Scan → Scan
+stateOf (accepted s) = s
+stateOf (refused k v) = started 0 0 0

@@ -1,0 +1,1 @@
+// The sweep by single bytes: the scan state and its calls.

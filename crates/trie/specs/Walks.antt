@@ -1,0 +1,57 @@
+-- The rules' nodes as numbers in five tables, built or not: the child with a label, a node's ending, the tokens.
+use Prim.Native.Nat.{ℕ, zero, suc, _-_}
+use mathlib.Core.Bool.{true, false}
+use mathlib.Core.List.{List, [], _∷_}
+use mathlib.Core.Option.{Option, some, none}
+use lib.Dec.{eqb}
+use lib.ListN.{length, getD}
+use Rattle.rules.specs.Rules.{Tree}
+use Rattle.rules.specs.Tokens.{shiftOf}
+use Rattle.trie.specs.Tables.{Tables}
+
+-- The walk along a chain from node `at`: the first with that label, or none at the chain's end.
+abbrev pub along : Tables → ℕ → ℕ → ℕ → Option ℕ
+along t x zero at = none
+along t x (suc fuel) at =
+    elim (eqb at 0) [
+      | true ↦ none
+      | false ↦ elim (eqb (getD (t .label) at 0) x) [ true ↦ some at | false ↦ along t x fuel (getD (t .next) at 0) ]
+    ]
+
+-- The walk along a node's children.
+abbrev pub childBy : Tables → ℕ → ℕ → ℕ → Option ℕ
+childBy t count v x = along t x count (getD (t .first) v 0)
+
+-- the labels from node v up to the root; a parent is a smaller node, so v is fuel enough
+abbrev pub climb : Tables → ℕ → ℕ → List ℕ
+climb t zero v = []
+climb t (suc fuel) v = elim (eqb v 0) [ true ↦ [] | false ↦ getD (t .label) v 0 ∷ climb t fuel (getD (t .parent) v 0) ]
+
+-- A node's ending, by its parents.
+abbrev pub ending : Tables → ℕ → List ℕ
+ending t v = climb t v v
+
+abbrev pub depth : Tables → ℕ → ℕ
+depth t v = length (ending t v)
+
+-- the node n above v
+abbrev pub lifted : Tables → ℕ → ℕ → ℕ
+lifted t zero v = v
+lifted t (suc n) v = lifted t n (getD (t .parent) v 0)
+
+-- The tokens that tables have: the endings of the nodes below `count` that carry a token number.
+abbrev pub words : Tables → ℕ → List (List ℕ)
+words t zero = []
+words t (suc v) = elim (getD (t .token) v 0) [ zero ↦ words t v | suc i ↦ ending t v ∷ words t v ]
+
+-- The rules' tree that the tables are.
+abbrev pub ofTables : Tables → ℕ → ℕ → Tree ℕ
+ofTables t count shortest = record {
+  root = 0;
+  child = childBy t count;
+  leaf = λ v. eqb (getD (t .first) v 0) 0;
+  token = λ v. getD (t .token) v 0;
+  byteAt = λ v k. getD (t .label) (lifted t (depth t v - 1 - k) v) 0;
+  ancestor = λ v k. lifted t (depth t v - k) v;
+  shift = λ v c. shiftOf (words t count) shortest (ending t v) c;
+}

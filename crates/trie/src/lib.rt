@@ -1,0 +1,1 @@
+// The tree tables: how they are built, and which are no tree.
