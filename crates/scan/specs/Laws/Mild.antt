@@ -2,10 +2,11 @@
 use Prim.Native.Nat.{ℕ, zero, suc, _+_, _≤_}
 use native.Mathlib.Omega.{arith}
 use mathlib.Core.Path.{_≡_, refl}
-use mathlib.Core.List.{List, _∷_, _++_}
+use mathlib.Core.List.{List, [], _∷_, _++_}
 use mathlib.Core.Option.{Option, some, none}
-use Rattle.rules.specs.Rules.{Tree, Config, Event, Step, Next, finished, wants, goes, place, hitAt, recall, endRound, taken, take, look, next}
+use Rattle.rules.specs.Rules.{Tree, Config, Event, fetched, recalled, hit, shifted, done, Step, Next, finished, wants, goes, place, hitAt, recall, endRound, taken, take, look, next}
 use Rattle.rules.specs.Laws.Tests.{next-cases}
+use Rattle.rules.specs.Laws.Image.{eventsOf}
 use Rattle.scan.specs.Calls.{Answer, found, Hit, noHit, hitOf, hitIn}
 use Rattle.scan.specs.Answers.{answers}
 
@@ -46,3 +47,12 @@ module _ {E : Type 0} (tree : Tree E) (n M : ℕ) (near : (v : E) (o : Option �
   pub next-mild : MildNext tree n M c (next tree n c)
   next-mild =
       next-cases tree n c (MildNext tree n M c) (λ _. tt) (λ i _. end-mild i none) (λ i _. look-mild i (recall tree (c .stretches) (place c)))
+
+-- The calls' answers do not show nodes.
+pub events-answers : {E F : Type 0} (f : E → F) (es : List (Event E)) → answers (eventsOf f es) ≡ answers es
+events-answers f [] = refl
+events-answers f (fetched p ∷ es) = cc (events-answers f es)
+events-answers f (recalled p ∷ es) = events-answers f es
+events-answers f (hit e i ∷ es) = cc (events-answers f es)
+events-answers f (shifted b ss ∷ es) = events-answers f es
+events-answers f (done ∷ es) = refl

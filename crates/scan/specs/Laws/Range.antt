@@ -17,8 +17,8 @@ use Rattle.rules.specs.Laws.Image.{stretchesOf, stretches-length}
 use Rattle.rules.specs.Laws.Alike.{AptStretch}
 use Rattle.trie.specs.Tables.{Tables}
 use Rattle.trie.specs.Walks.{ending, depth, ofTables}
-use Rattle.scan.specs.Calls.{refused, equal, judged}
-use Rattle.scan.specs.State.{Scan, ordered, wantsByte, inRange}
+use Rattle.scan.specs.Calls.{refused, outOfTurn, judged}
+use Rattle.scan.specs.State.{Scan, rising, wantsByte, inRange}
 use Rattle.scan.specs.Laws.Walk.{Given, Sat, alike}
 
 -- The state after k bytes.
@@ -49,10 +49,10 @@ module _ {tokens : List (List ℕ)} {S D : ℕ} {t : Tables} {count n : ℕ} (gi
   sat-cap c k s = omega (arith, sat-below c k s, limit-cap n D (given .long) (given .short) (given .image))
 
   module _ (s : Scan) (nodes : s .count ≡ count) (image : s .image ≡ n) where
-    ordered-true : (lo : ℕ) (ms : List (Stretch ℕ)) → All (AptStretch (alike given)) ms
-        → Spans D (s .config .boundary) lo (stretchesOf (ending t) ms) → Upto n (stretchesOf (ending t) ms) → ordered t s lo ms ≡ true
-    ordered-true lo [] a p u = refl
-    ordered-true lo (m ∷ ms) a p u =
+    rising-true : (lo : ℕ) (ms : List (Stretch ℕ)) → All (AptStretch (alike given)) ms
+        → Spans D (s .config .boundary) lo (stretchesOf (ending t) ms) → Upto n (stretchesOf (ending t) ms) → rising t s lo ms ≡ true
+    rising-true lo [] a p u = refl
+    rising-true lo (m ∷ ms) a p u =
         let b = s .config .boundary in
         cc (
           le-leb lo (m .left) (omega arith),
@@ -62,7 +62,7 @@ module _ {tokens : List (List ℕ)} {S D : ℕ} {t : Tables} {count n : ℕ} (gi
           lt-ltb (m .node) (s .count) (omega arith),
           eq-eqb (depth t (m .node)) (m .right - m .left) (a .0 .1),
           le-leb (4 * (b - m .right)) (m .right - m .left) (omega arith),
-          ordered-true (m .right) ms (a .1) (p .4) (u .1),
+          rising-true (m .right) ms (a .1) (p .4) (u .1),
         )
 
   module _ (c : Config ℕ) (due : Bool) (k : ℕ) (s : Sat given c k)
@@ -82,11 +82,11 @@ module _ {tokens : List (List ℕ)} {S D : ℕ} {t : Tables} {count n : ℕ} (gi
           le-leb (c .boundary) (n + 1024) (s .near),
           le-leb k 1000000000 (omega (arith, sat-cap c k s)),
           le-leb (length (c .stretches)) 5 (four-few (length (c .stretches)) (omega (arith, sat-few c k s, given .short))),
-          ordered-true st refl refl 0 (c .stretches) (s .apt .stretches) (s .fine .held .spans) (s .fine .upto),
+          rising-true st refl refl 0 (c .stretches) (s .apt .stretches) (s .fine .held .spans) (s .fine .upto),
           w,
         )
 
     -- A call is judged by its turn alone.
     pub judged-turn : (turn : Bool)
-        → judged t (stateAt n S count c due k) turn ≡ elim (equal due turn) [ false ↦ some (refused 11 0) | true ↦ none ]
+        → judged t (stateAt n S count c due k) turn ≡ elim (outOfTurn (stateAt n S count c due k) turn) [ true ↦ some (refused 11 0) | false ↦ none ]
     judged-turn turn = cc (given .represents .fine, in-range)

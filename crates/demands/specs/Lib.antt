@@ -1,0 +1,1 @@
+-- The customer's demands 2 and 3, the sample sweeps P1 to P8, and the theorems.
