@@ -1,1 +1,4 @@
--- The customer's demands 2 and 3, the sample sweeps P1 to P8, and the theorems.
+-- tmp
+pub mod Demand2
+pub mod Demand3
+pub mod Laws

@@ -34,3 +34,19 @@ isFetch (fetch p) = true
 isFetch (found e i) = false
 isFetch over = false
 isFetch (refused k v) = false
+
+-- The places to fetch among answers, in order.
+abbrev pub placesIn : List Answer → List ℕ
+placesIn [] = []
+placesIn (fetch p ∷ rest) = p ∷ placesIn rest
+placesIn (found e i ∷ rest) = placesIn rest
+placesIn (over ∷ rest) = placesIn rest
+placesIn (refused k v ∷ rest) = placesIn rest
+
+-- The hits among answers, in order.
+abbrev pub hitsIn : List Answer → List (ℕ × ℕ)
+hitsIn [] = []
+hitsIn (fetch p ∷ rest) = hitsIn rest
+hitsIn (found e i ∷ rest) = (e, i) ∷ hitsIn rest
+hitsIn (over ∷ rest) = hitsIn rest
+hitsIn (refused k v ∷ rest) = hitsIn rest

@@ -1,4 +1,4 @@
--- A list of calls, each handed the state that the last one gave back.
+-- A list of calls, each handed the state that the one before gave back: what it answers, takes and leaves.
 use Prim.Native.Nat.{ℕ, zero, suc, _+_, _^_, _≤_}
 use native.Mathlib.Omega.{arith}
 use native.Mathlib.Numerals.{add-one}
@@ -38,6 +38,10 @@ drop-next (a ∷ all) zero x xs e = cc
 drop-next (a ∷ all) (suc k) x xs e = drop-next all k x xs e
 
 module _ {tokens : List (List ℕ)} {S D : ℕ} {t : Tables} {count n : ℕ} (given : Given tokens S D t count n) (all : List ℕ) where
+  -- the bytes taken, one after the other
+  abbrev ask : ℕ → ℕ → ℕ
+  ask k p = getD all k 0
+
   -- What is shown of the calls from a state on, after k bytes.
   pub record Right (cs : List Call) (due : Bool) (todo : List Answer) (k : ℕ) (r : Ran) : Type 0 where
     pub said : r .said ≡ expected due todo cs
@@ -46,13 +50,13 @@ module _ {tokens : List (List ℕ)} {S D : ℕ} {t : Tables} {count n : ℕ} (gi
     pub few : 4 ^ length (r .last .config .stretches) ≤ D
 
   abbrev Goes : List Call → Type 0
-  Goes cs = (c : Config ℕ) (due : Bool) (k : ℕ) (todo : List Answer) → Sat given c k → Todo given all k due c todo
+  Goes cs = (c : Config ℕ) (due : Bool) (k : ℕ) (todo : List Answer) → Sat given c k → Todo given ask k due c todo
       → drop k all ≡ ran t (stateAt n S count c due k) cs .taken
       → Right cs due todo k (ran t (stateAt n S count c due k) cs)
 
   -- A call out of turn, and the others.
   refused-right : (call : Call) (cs : List Call) → Goes cs → (c : Config ℕ) (due : Bool) (k : ℕ) (todo : List Answer)
-      → Sat given c k → Todo given all k due c todo
+      → Sat given c k → Todo given ask k due c todo
       → tookBy call (refused 11 0) ≡ [] → expected due todo (call ∷ cs) ≡ refused 11 0 ∷ expected due todo cs
       → (r : Stepped) → r ≡ record { state = stateAt n S count c due k; answer = refused 11 0 }
       → drop k all ≡ joined t call cs r .taken → Right (call ∷ cs) due todo k (joined t call cs r)
@@ -67,7 +71,7 @@ module _ {tokens : List (List ℕ)} {S D : ℕ} {t : Tables} {count n : ℕ} (gi
   settled-right : (call : Call) (cs : List Call) → Goes cs → (due : Bool) (k k′ : ℕ) (todo : List Answer)
       → (xs : List ℕ) → tookBy call (first todo) ≡ xs → k + length xs ≡ k′ → ((rest : List ℕ) → drop k all ≡ xs ++ rest → drop k′ all ≡ rest)
       → expected due todo (call ∷ cs) ≡ first todo ∷ expected (isFetch (first todo)) (later todo) cs
-      → (r : Stepped) → Settled given all k′ todo r
+      → (r : Stepped) → Settled given ask k′ todo r
       → drop k all ≡ joined t call cs r .taken → Right (call ∷ cs) due todo k (joined t call cs r)
   settled-right call cs ih due k k′ todo xs took more on next r z =
       subst (λ r. drop k all ≡ joined t call cs r .taken → Right (call ∷ cs) due todo k (joined t call cs r)) (sym (z .is)) λ e.
@@ -85,17 +89,17 @@ module _ {tokens : List (List ℕ)} {S D : ℕ} {t : Tables} {count n : ℕ} (gi
 
   -- A byte in turn, and the others.
   give-right : (x : ℕ) (cs : List Call) → Goes cs → (c : Config ℕ) (k : ℕ) (todo : List Answer)
-      → Sat given c k → Todo given all k true c todo
+      → Sat given c k → Todo given ask k true c todo
       → drop k all ≡ ran t (stateAt n S count c true k) (give x ∷ cs) .taken
       → Right (give x ∷ cs) true todo k (ran t (stateAt n S count c true k) (give x ∷ cs))
   give-right x cs ih c k todo s h e =
       let st = stateAt n S count c true k in
-      let plain = supply-plain given all c k s todo h x in
+      let plain = supply-plain given ask c k s todo h x in
       let rest = ran t (supply t st x .state) cs in
       let y : drop k all ≡ x ∷ rest .taken = e ∙ ap (λ l. l ++ rest .taken) (took x (supply t st x .answer) plain) in
-      let z : Settled given all (k + 1) todo (supply t st x) =
-      subst (λ x. Settled given all (k + 1) todo (supply t st x)) (drop-here all k x (rest .taken) y)
-      (supply-settles given all c k s todo h) in
+      let z : Settled given ask (k + 1) todo (supply t st x) =
+      subst (λ x. Settled given ask (k + 1) todo (supply t st x)) (drop-here all k x (rest .taken) y)
+      (supply-settles given ask c k s todo h) in
       settled-right (give x) cs ih true k (k + 1) todo (x ∷ [])
       (took x (first todo) (ap (λ r. isRefused (r .answer)) (sym (z .is)) ∙ plain)) (omega arith)
       (λ rest q. rw (add-one k) (drop-next all k x rest q)) refl (supply t st x) z e
@@ -109,11 +113,11 @@ module _ {tokens : List (List ℕ)} {S D : ℕ} {t : Tables} {count n : ℕ} (gi
   }
   calls-right (carry ∷ cs) c true k todo s h e =
       refused-right carry cs (calls-right cs) c true k todo s h refl refl (carryOn t (stateAt n S count c true k))
-      (carry-refused given all c k s todo h) e
+      (carry-refused given ask c k s todo h) e
   calls-right (carry ∷ cs) c false k todo s h e =
       settled-right carry cs (calls-right cs) false k k todo [] refl (omega arith) (λ rest q. q) refl (carryOn t (stateAt n S count c false k))
-      (carry-settles given all c k s todo h) e
+      (carry-settles given ask c k s todo h) e
   calls-right (give x ∷ cs) c true k todo s h e = give-right x cs (calls-right cs) c k todo s h e
   calls-right (give x ∷ cs) c false k todo s h e =
       refused-right (give x) cs (calls-right cs) c false k todo s h refl refl (supply t (stateAt n S count c false k) x)
-      (supply-refused given all c k s x) e
+      (supply-refused given ask c k s x) e

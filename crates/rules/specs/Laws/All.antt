@@ -29,4 +29,3 @@ length-filter p [] = omega arith
 length-filter p (a ∷ l) =
     let h = length-filter p l in
     decide (λ r. length r ≤ suc (length l)) (p a) _ _ (λ _. omega arith) (λ _. omega arith)
-

@@ -41,4 +41,3 @@ pub longest-is : (tokens : List (List ℕ)) → 1 ≤ length tokens → LengthOf
 longest-is [] h = absurd (omega arith)
 longest-is (t ∷ []) h = (0, omega arith, omega arith)
 longest-is (t ∷ u ∷ ts) h = either t (u ∷ ts) (longestOf (u ∷ ts)) _ (longest-is (u ∷ ts) (omega arith)) (λ e. omega arith)
-

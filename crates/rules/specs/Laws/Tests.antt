@@ -94,10 +94,14 @@ pub every-all : (n : ℕ) (p : ℕ → Bool) → ((k : ℕ) → k < n → p k �
 every-all zero p f = refl
 every-all (suc n) p f = cc (f n (omega arith), every-all n p (λ k h. f k (omega arith)))
 
--- `least` is no smaller than where it starts, and no larger than any number from there on that passes.
+-- `least` is no smaller than where it starts, no larger than where it stops, nor than any number between that passes.
 pub least-ge : (p : ℕ → Bool) (i fuel : ℕ) → i ≤ least p i fuel
 least-ge p i zero = omega arith
 least-ge p i (suc fuel) = decide (λ m. i ≤ m) (p i) _ _ (λ _. omega arith) (λ _. omega (arith, least-ge p (i + 1) fuel))
+
+pub least-upto : (p : ℕ → Bool) (i fuel : ℕ) → least p i fuel ≤ i + fuel
+least-upto p i zero = omega arith
+least-upto p i (suc fuel) = decide (λ m. m ≤ i + suc fuel) (p i) _ _ (λ _. omega arith) (λ _. omega (arith, least-upto p (i + 1) fuel))
 
 pub least-le : (p : ℕ → Bool) (i fuel s : ℕ) → i ≤ s → p s ≡ true → least p i fuel ≤ s
 least-le p i zero s h t = h

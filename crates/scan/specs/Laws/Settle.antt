@@ -7,7 +7,6 @@ use mathlib.Core.Bool.{Bool, true, false}
 use mathlib.Core.List.{List, [], _++_}
 use mathlib.Core.Option.{Option, some, none}
 use borrow.Author.Tests.{lt-ltb}
-use lib.ListN.{getD}
 use Rattle.rules.specs.Rules.{Config, Event, Step, Next, finished, wants, goes, take, next, follow, trace}
 use Rattle.rules.specs.Laws.Limit.Ends.{stepsLeft}
 use Rattle.trie.specs.Tables.{Tables}
@@ -60,21 +59,25 @@ settle-plain : (t : Tables) (s : Scan) (fuel : ℕ) (c : Config ℕ) → isRefus
 settle-plain t s zero c = refl
 settle-plain t s (suc fuel) c = next-plain t s fuel (settle-plain t s fuel) c (next (ofTables t (s .count) (s .shortest)) (s .image) c)
 
-module _ {tokens : List (List ℕ)} {S D : ℕ} {t : Tables} {count n : ℕ} (given : Given tokens S D t count n) (all : List ℕ) where
-  -- What happens from a configuration on, after k bytes, where the bytes are those of `all`.
+module _ {tokens : List (List ℕ)} {S D : ℕ} {t : Tables} {count n : ℕ} (given : Given tokens S D t count n) (ask : ℕ → ℕ → ℕ) where
+  -- What happens from a configuration on, after k bytes.
   abbrev pub run : ℕ → ℕ → Config ℕ → List (Event ℕ)
-  run fuel k c = trace (ofTables t count S) n (λ k p. getD all k 0) fuel k c
+  run fuel k c = trace (ofTables t count S) n ask fuel k c
 
-  -- The step that the byte after the first k makes.
-  abbrev fed : ℕ → Config ℕ → Step ℕ
-  fed k c = take (ofTables t count S) c (getD all k 0)
+  -- The step that the byte after the first k makes, which is for place `at`.
+  abbrev fed : ℕ → ℕ → Config ℕ → Step ℕ
+  fed k at c = take (ofTables t count S) c (ask k at)
 
   -- The answers to come at a configuration: if a byte is due, those after it is taken.
   abbrev pub Todo : ℕ → Bool → Config ℕ → List Answer → Type 0
   Todo k false c todo = (fuel : ℕ) × Enough n D c fuel × (todo ≡ answers (run fuel k c))
   Todo k true c todo =
       (at : ℕ) × (fuel : ℕ) × (next (ofTables t count S) n c ≡ wants at)
-      × Enough n D (fed k c .config) fuel × (todo ≡ answers (fed k c .events ++ run fuel (k + 1) (fed k c .config)))
+      × Enough n D (fed k at c .config) fuel × (todo ≡ answers (fed k at c .events ++ run fuel (k + 1) (fed k at c .config)))
+
+  -- An answer that is no place to fetch wants none.
+  none-wanted : (a : Answer) (c : Config ℕ) → isFetch a ≡ false → (p : ℕ) → a ≡ fetch p → next (ofTables t count S) n c ≡ wants p
+  none-wanted a c e p q = absurd (let z : _≡_ {A = ℕ} 0 1 = cc in omega arith)
 
   nothing-left : (k : ℕ) (c : Config ℕ) → n < c .boundary → Todo k false c []
   unfolding trace
@@ -88,6 +91,7 @@ module _ {tokens : List (List ℕ)} {S D : ℕ} {t : Tables} {count n : ℕ} (gi
     pub sat : Sat given config k
     pub rest : Todo k due config (later todo)
     pub turn : isFetch (first todo) ≡ due
+    pub wanted : (p : ℕ) → first todo ≡ fetch p → next (ofTables t count S) n config ≡ wants p
 
   module _ (c₀ : Config ℕ) (due₀ : Bool) (k : ℕ) where
     -- Going on from configurations with steps enough settles.
@@ -105,16 +109,24 @@ module _ {tokens : List (List ℕ)} {S D : ℕ} {t : Tables} {count n : ℕ} (gi
       where
         go : (x : Hit) → Settled k (answered x (answers (run f k (w .config)))) (onHit t (stateAt n S count c₀ due₀ k) fuel w x)
         go noHit = ih f (w .config) (s .sat) l g h
-        go (hitOf e i) = record { config = w .config; due = false; is = refl; sat = s .sat; rest = (f, h, refl); turn = refl }
+        go (hitOf e i) = record { config = w .config; due = false; is = refl; sat = s .sat; rest = (f, h, refl); turn = refl; wanted = none-wanted (found e i) (w .config) refl }
 
     next-settles : (fuel f : ℕ) (c : Config ℕ) → Sat given c k → Settles fuel
         → Enough n D c (suc fuel) → Enough n D c (suc f) → (x : Next ℕ) → next (ofTables t count S) n c ≡ x → SatNext given c k x
-        → Settled k (answers (follow (ofTables t count S) (λ k p. getD all k 0) (run f) k c x)) (onNext t (stateAt n S count c₀ due₀ k) fuel c x)
+        → Settled k (answers (follow (ofTables t count S) ask (run f) k c x)) (onNext t (stateAt n S count c₀ due₀ k) fuel c x)
     next-settles fuel f c s ih g h finished e x =
-        record { config = c; due = false; is = refl; sat = s; rest = nothing-left k c x; turn = refl }
+        record { config = c; due = false; is = refl; sat = s; rest = nothing-left k c x; turn = refl; wanted = none-wanted over c refl }
     next-settles fuel f c s ih g h (wants at) e x =
-        let w = x (getD all k 0) in
-        record { config = c; due = true; is = refl; sat = s; rest = (at, f, e, λ i. omega (arith, h (w .early), w .less), refl); turn = refl }
+        let w = x (ask k at) in
+        record {
+          config = c;
+          due = true;
+          is = refl;
+          sat = s;
+          rest = (at, f, e, λ i. omega (arith, h (w .early), w .less), refl);
+          turn = refl;
+          wanted = λ p q. let z : at ≡ p = cc in cc;
+        }
     next-settles fuel f c s ih g h (goes w) e x =
         let a = g (x .early) in
         let b = h (x .early) in
@@ -124,7 +136,7 @@ module _ {tokens : List (List ℕ)} {S D : ℕ} {t : Tables} {count n : ℕ} (gi
         → (x : Next ℕ) → finished ≡ x → Settled k [] (onNext t (stateAt n S count c₀ due₀ k) fuel c x)
     over-settles fuel c s h x e =
         subst (λ x. Settled k [] (onNext t (stateAt n S count c₀ due₀ k) fuel c x)) e
-        (record { config = c; due = false; is = refl; sat = s; rest = nothing-left k c h; turn = refl })
+        (record { config = c; due = false; is = refl; sat = s; rest = nothing-left k c h; turn = refl; wanted = none-wanted over c refl })
 
     settle-settles : (fuel : ℕ) → Settles fuel
     unfolding trace
@@ -170,10 +182,10 @@ module _ {tokens : List (List ℕ)} {S D : ℕ} {t : Tables} {count n : ℕ} (gi
           ap (λ r. isRefused (r .answer)) (supply-is x)
           ∙ hit-plain t st ((n + 2) * 1026) (settle-plain t st ((n + 2) * 1026)) w (hitIn (w .events))
 
-      pub supply-settles : Settled (k + 1) todo (supply t (stateAt n S count c true k) (getD all k 0))
+      pub supply-settles : Settled (k + 1) todo (supply t (stateAt n S count c true k) (ask k (h .0)))
       supply-settles =
-          let x = getD all k 0 in
-          let w = fed k c in
+          let x = ask k (h .0) in
+          let w = fed k (h .0) c in
           let z : SatStep given c (k + 1) w = subst (SatNext given c k) (h .2) (next-sat given c k s) x in
           let r = onHit t (stateAt n S count c false (k + 1)) ((n + 2) * 1026) w (hitIn (w .events)) in
           subst (Settled (k + 1) todo) (sym (supply-is x)) (subst (λ todo. Settled (k + 1) todo r) (sym (h .4))

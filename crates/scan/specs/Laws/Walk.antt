@@ -9,12 +9,11 @@ use mathlib.Core.List.{List, _++_}
 use mathlib.Core.Option.{Option, some, none}
 use lib.ListN.{length, length-drop}
 use Rattle.rules.specs.Rules.{Config, Event, Step, Next, finished, wants, goes, fresh, take, next}
-use Rattle.rules.specs.Lists.{least}
-use Rattle.rules.specs.Tokens.{nodeShift, byteShift, shiftOf, grown, ofTokens}
+use Rattle.rules.specs.Tokens.{grown, ofTokens}
 use Rattle.rules.specs.Laws.Setting.{Setting}
-use Rattle.rules.specs.Laws.Tests.{decide}
 use Rattle.rules.specs.Laws.Limit.{Fine, FineStep, FineNext, next-fine, fresh-fine}
 use Rattle.rules.specs.Laws.Limit.Ends.{stepsLeft, Finite}
+use Rattle.rules.specs.Laws.Exact.Shift.{shift-upto}
 use Rattle.rules.specs.Laws.Exact.{tokens-finite}
 use Rattle.rules.specs.Laws.Image.{configOf, nextOf, stepOf}
 use Rattle.rules.specs.Laws.Alike.{Both, Alike, Apt, AptNext, take-same, take-apt, next-same, next-apt}
@@ -25,21 +24,6 @@ use Rattle.trie.specs.Laws.Represents.{Represents}
 use Rattle.scan.specs.Answers.{answers}
 use Rattle.scan.specs.Calls.{hitIn}
 use Rattle.scan.specs.Laws.Mild.{answered, Mild, MildNext, next-mild}
-
--- A shift is at most the length of the shortest token.
-least-upto : (p : ℕ → Bool) (i fuel : ℕ) → least p i fuel ≤ i + fuel
-least-upto p i zero = omega arith
-least-upto p i (suc fuel) = decide (λ m. m ≤ i + suc fuel) (p i) _ _ (λ _. omega arith) (λ _. omega (arith, least-upto p (i + 1) fuel))
-
-shift-upto : (tokens : List (List ℕ)) (S : ℕ) → 1 ≤ S → (u : List ℕ) (o : Option ℕ) → shiftOf tokens S u o ≤ S
-shift-upto tokens S h u o = omega (arith, node, byte o)
-  where
-    node : nodeShift tokens S u ≤ S
-    node = le-trans (least-upto _ 1 (S - 1)) (omega arith)
-
-    byte : (o : Option ℕ) → byteShift tokens S (length u) o ≤ S
-    byte none = h
-    byte (some x) = le-trans (least-upto _ 1 (S - 1)) (omega arith)
 
 -- The tables' tree and the tokens' are alike.
 tables-alike : (tokens : List (List ℕ)) (S D : ℕ) → Setting tokens S D → (t : Tables) (count : ℕ) → Represents t count tokens

@@ -33,7 +33,7 @@ number-none u i [] d = refl
 number-none u i (t ∷ ts) d =
     cc (false-test (same u t) (λ e. d 0 (omega arith) (sym (same→eq u t e))), number-none u (i + 1) ts (λ j h e. d (suc j) (omega arith) e))
 
-number-at : (u : List ℕ) (i : ℕ) (ts : List (List ℕ)) (j : ℕ) → j < length ts → getD ts j [] ≡ u
+pub number-at : (u : List ℕ) (i : ℕ) (ts : List (List ℕ)) (j : ℕ) → j < length ts → getD ts j [] ≡ u
     → ((k : ℕ) → k < j → getD ts k [] ≡ u → ⊥) → numberFrom i u ts ≡ i + j
 number-at u i [] j h e d = absurd (omega arith)
 number-at u i (t ∷ ts) zero h e d = let z : i ≡ i + 0 = omega arith in cc (same-refl u)
@@ -84,7 +84,7 @@ shift-same a b f S u none =
 shift-same a b f S u (some x) =
     cc (
       least-same (λ s. any (λ t. every (length u) (λ k. agrees t s k (fromRight u k))) a) _ (λ s. f _) 1 (S - 1),
-      least-same (λ s. any (λ t. agrees t s (length u) x) a) _ (λ s. f _) 1 (S - 1)
+      least-same (λ s. any (λ t. agrees t s (length u) x) a) _ (λ s. f _) 1 (S - 1),
     )
 
 module _ (tokens : List (List ℕ)) (t : Tables) (n : ℕ) (fs : Facts tokens (length tokens) t n) where
@@ -145,8 +145,12 @@ module _ (tokens : List (List ℕ)) (t : Tables) (n : ℕ) (fs : Facts tokens (l
       let front : u ≡ f ++ ending t v = ends→front (ending t v) u (and-r (ltb (length (ending t v)) (length u)) (ends (ending t v) u) (q .2)) in
       let w = fs .node (q .0) (q .1) in
       let c = child-above f (ending t v) (w .0) (w .1) (w .2 ∙ front) (omega (arith, ap length front ∙ length-append f (ending t v))) in
-      omega (arith, eqb-true (head t v) 0 a, s .heads v h .least (c .0) (c .2) (c .1)
-      (ending-apart t n s (up t (c .0)) v (omega (arith, s .ups (c .0) (c .2) (c .1), c .1)) h (c .3))))
+      omega (
+        arith,
+        eqb-true (head t v) 0 a,
+        s .heads v h .least (c .0) (c .2) (c .1)
+            (ending-apart t n s (up t (c .0)) v (omega (arith, s .ups (c .0) (c .2) (c .1), c .1)) h (c .3)),
+      ))
       (λ a. let c = s .heads v h .node (omega (arith, eqb-false (head t v) 0 a)) in
       let q = fs .real (head t v) (c .0) (c .1) in
       let u = getD tokens (q .0) [] in
@@ -157,7 +161,7 @@ module _ (tokens : List (List ℕ)) (t : Tables) (n : ℕ) (fs : Facts tokens (l
       (cc (
         lt-ltb (length (ending t v)) (length u) (ends-shorter (tag t (head t v) ∷ ending t v) u r),
         front→ends (f ++ (tag t (head t v) ∷ [])) (ending t v) u
-            (ends→front (tag t (head t v) ∷ ending t v) u r ∙ sym (append-snoc f (tag t (head t v)) (ending t v)))
+            (ends→front (tag t (head t v) ∷ ending t v) u r ∙ sym (append-snoc f (tag t (head t v)) (ending t v))),
       )))
 
   under : (v : ℕ) → 0 < depth t v → 0 < v

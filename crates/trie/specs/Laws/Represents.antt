@@ -2,17 +2,18 @@
 -- whatever follows them in the lists that are lent.
 use Prim.Native.Nat.{ℕ, _+_, _-_, _≤_, _<_}
 use native.Mathlib.Omega.{arith}
-use mathlib.Core.Path.{_≡_, refl, ap, _∙_}
+use mathlib.Core.Path.{_≡_, refl, ap, sym, subst, _∙_}
 use mathlib.Core.Bool.{Bool, true, false, _&&_, not}
 use mathlib.Core.List.{List, [], _∷_, _++_}
 use mathlib.Core.Option.{Option, some, none}
 use lib.Dec.{eqb, ltb}
 use lib.ListN.{length, getD, drop, length-append, List·getD-append}
+use lib.Seq.{take-length}
 use Rattle.rules.specs.Lists.{any, numberFrom}
 use Rattle.rules.specs.Tokens.{ends, fromRight, grown, shiftOf, total, longestOf}
 use Rattle.rules.specs.Laws.Tests.{clash}
 use Rattle.book.specs.Laws.Accepted.{Fit}
-use Rattle.trie.specs.Tables.{Tables, Lent, shortestTable}
+use Rattle.trie.specs.Tables.{Tables, nodes, built, Lent, shortestTable}
 use Rattle.trie.specs.Laws.Growth.{insertedAll}
 use Rattle.trie.specs.Walks.{childBy, ending, depth, words, ofTables}
 use Rattle.trie.specs.Broken.{broken}
@@ -21,6 +22,7 @@ use Rattle.trie.specs.Laws.Grow.{Sized}
 use Rattle.trie.specs.Laws.Build.{Facts, facts-agree, built-facts}
 use Rattle.trie.specs.Laws.Nodes.{Stand, real, deep, stands, child, leaf, bytes, lifts, word, shift-same, token}
 use Rattle.trie.specs.Laws.Sound.{fine}
+use Rattle.trie.specs.Laws.Same.{inserted-built}
 
 pub record Represents (t : Tables) (count : ℕ) (tokens : List (List ℕ)) : Type 0 where
   pub some-node : 1 ≤ count
@@ -40,9 +42,6 @@ pub record Represents (t : Tables) (count : ℕ) (tokens : List (List ℕ)) : Ty
   pub apart : (v w : ℕ) → v < count → w < count → ending t v ≡ ending t w → v ≡ w
   -- the rules' tree, by tables and by tokens
   pub child : (v x : ℕ) → v < count → Stand t count (childBy t count v x) (grown tokens (ending t v) x)
-  pub child-some : (v x : ℕ) → v < count → any (ends (x ∷ ending t v)) tokens ≡ true
-      → (w : ℕ) × (childBy t count v x ≡ some w) × (w < count) × (ending t w ≡ x ∷ ending t v)
-  pub child-none : (v x : ℕ) → v < count → any (ends (x ∷ ending t v)) tokens ≡ false → childBy t count v x ≡ none
   pub leaf : (v : ℕ) → v < count
       → eqb (getD (t .first) v 0) 0 ≡ not (any (λ u. ltb (length (ending t v)) (length u) && ends (ending t v) u) tokens)
   pub token : (v : ℕ) → v < count → getD (t .token) v 0 ≡ numberFrom 1 (ending t v) tokens
@@ -62,62 +61,44 @@ lent-length l l′ more n e h = omega (arith, ap length e ∙ length-append l mo
 -- what the facts say, in the rules' words
 represents : (tokens : List (List ℕ)) (t : Tables) (n : ℕ) → Facts tokens (length tokens) t n → Fit tokens → n ≤ shortestTable t → n ≤ 1 + total tokens
     → Represents t n tokens
-represents tokens t n fs fit h k = record
-  { some-node = fs .shape .size
-  ; few = k
-  ; held = h
-  ; fine = fine tokens t n fs fit h
-  ; root = refl
-  ; root-up = fs .shape .root-up
-  ; up = fs .shape .ups
-  ; step = ending-step t n (fs .shape)
-  ; real = real tokens t n fs
-  ; deep = deep tokens t n fs
-  ; stands = stands tokens t n fs
-  ; apart = ending-apart t n (fs .shape)
-  ; child = child tokens t n fs
-  ; child-some = λ v x v< e. go-some v x (childBy t n v x) (any (ends (x ∷ ending t v)) tokens) (child tokens t n fs v x v<) e
-  ; child-none = λ v x v< e. go-none v x (childBy t n v x) (any (ends (x ∷ ending t v)) tokens) (child tokens t n fs v x v<) e
-  ; leaf = leaf tokens t n fs
-  ; token = token tokens t n fs fit
-  ; words-any = word tokens t n fs
-  ; shift = shift-same (words t n) tokens (word tokens t n fs)
-  ; byteAt = λ S v k v< k<. bytes tokens t n fs (depth t v - 1 - k) v v< (omega arith)
-  ; ancestor = λ S v k v< k≤. lifts tokens t n fs (depth t v - k) v v<
-  }
-  where
-    go-some : (v x : ℕ) (o : Option ℕ) (b : Bool) → Stand t n o (elim b [ true ↦ some (x ∷ ending t v) | false ↦ none ]) → b ≡ true
-        → (w : ℕ) × (o ≡ some w) × (w < n) × (ending t w ≡ x ∷ ending t v)
-    go-some v x none true f e = absurd f
-    go-some v x none false f e = absurd (clash false e refl)
-    go-some v x (some w) true f e = (w, refl, f .0, f .1)
-    go-some v x (some w) false f e = absurd f
-
-    go-none : (v x : ℕ) (o : Option ℕ) (b : Bool) → Stand t n o (elim b [ true ↦ some (x ∷ ending t v) | false ↦ none ]) → b ≡ false → o ≡ none
-    go-none v x none true f e = refl
-    go-none v x none false f e = refl
-    go-none v x (some w) true f e = absurd (clash true refl e)
-    go-none v x (some w) false f e = absurd f
+represents tokens t n fs fit h k = record {
+  some-node = fs .shape .size;
+  few = k;
+  held = h;
+  fine = fine tokens t n fs fit h;
+  root = refl;
+  root-up = fs .shape .root-up;
+  up = fs .shape .ups;
+  step = ending-step t n (fs .shape);
+  real = real tokens t n fs;
+  deep = deep tokens t n fs;
+  stands = stands tokens t n fs;
+  apart = ending-apart t n (fs .shape);
+  child = child tokens t n fs;
+  leaf = leaf tokens t n fs;
+  token = token tokens t n fs fit;
+  words-any = word tokens t n fs;
+  shift = shift-same (words t n) tokens (word tokens t n fs);
+  byteAt = λ S v k v< k<. bytes tokens t n fs (depth t v - 1 - k) v v< (omega arith);
+  ancestor = λ S v k v< k≤. lifts tokens t n fs (depth t v - k) v v<;
+}
 
 module _ (tokens : List (List ℕ)) where
-  -- the five built lists have one length
-  pub built-sized : Sized (insertedAll tokens) (length (insertedAll tokens .parent))
-  built-sized = let b = built-facts tokens in rw (b .sized .parents) (b .sized)
-
-  pub built-represents : Fit tokens → (t : Tables) → Lent t (insertedAll tokens) → Represents t (length (insertedAll tokens .parent)) tokens
-  built-represents fit t l =
+  inserted-represents : Fit tokens → (t : Tables) → Lent t (insertedAll tokens) → Represents t (length (nodes tokens)) tokens
+  inserted-represents fit t l =
       let b = built-facts tokens in
       let n = b .size in
       let z = b .sized in
-      rw (z .parents) (represents tokens t n
+      let count : length (nodes tokens) ≡ n = rw take-length at (b .facts .listed .size) in
+      rw count (represents tokens t n
       (facts-agree (insertedAll tokens) t n (b .facts .shape)
-      (record
-      { up-same = λ v h. lent-at (insertedAll tokens .parent) (t .parent) (l .parents .0) n v (l .parents .1) (z .parents) h
-      ; tag-same = λ v h. lent-at (insertedAll tokens .label) (t .label) (l .labels .0) n v (l .labels .1) (z .labels) h
+      (record {
+        up-same = λ v h. lent-at (insertedAll tokens .parent) (t .parent) (l .parents .0) n v (l .parents .1) (z .parents) h;
+        tag-same = λ v h. lent-at (insertedAll tokens .label) (t .label) (l .labels .0) n v (l .labels .1) (z .labels) h;
       })
-      (record
-      { head-same = λ v h. lent-at (insertedAll tokens .first) (t .first) (l .firsts .0) n v (l .firsts .1) (z .firsts) h
-      ; sib-same = λ v h. lent-at (insertedAll tokens .next) (t .next) (l .nexts .0) n v (l .nexts .1) (z .nexts) h
+      (record {
+        head-same = λ v h. lent-at (insertedAll tokens .first) (t .first) (l .firsts .0) n v (l .firsts .1) (z .firsts) h;
+        sib-same = λ v h. lent-at (insertedAll tokens .next) (t .next) (l .nexts .0) n v (l .nexts .1) (z .nexts) h;
       })
       (λ v h. lent-at (insertedAll tokens .token) (t .token) (l .tokens .0) n v (l .tokens .1) (z .tokens) h)
       tokens (length tokens) (b .facts))
@@ -128,6 +109,9 @@ module _ (tokens : List (List ℕ)) where
         lent-length (insertedAll tokens .label) (t .label) (l .labels .0) n (l .labels .1) (z .labels),
         lent-length (insertedAll tokens .token) (t .token) (l .tokens .0) n (l .tokens .1) (z .tokens),
         lent-length (insertedAll tokens .first) (t .first) (l .firsts .0) n (l .firsts .1) (z .firsts),
-        lent-length (insertedAll tokens .next) (t .next) (l .nexts .0) n (l .nexts .1) (z .nexts)
+        lent-length (insertedAll tokens .next) (t .next) (l .nexts .0) n (l .nexts .1) (z .nexts),
       ))
       (b .few))
+
+  pub built-represents : Fit tokens → (t : Tables) → Lent t (built tokens) → Represents t (length (nodes tokens)) tokens
+  built-represents fit t l = inserted-represents fit t (subst (Lent t) (sym (inserted-built tokens fit)) l)

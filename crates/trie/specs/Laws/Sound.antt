@@ -43,7 +43,7 @@ module _ (tokens : List (List ℕ)) (t : Tables) (n : ℕ) (fs : Facts tokens (l
     linked-true t n v (head t v) v (λ a. let q = s .heads v h .node a in (omega (arith, s .ups (head t v) (q .0) (q .1), q .2), q .1, q .2)),
     linked-true t n v (sib t v) (up t v) (λ a. split v 0
         (λ e. absurd (omega (arith, s .root-sib, ap (sib t) e)))
-        (λ e. s .sibs v (omega arith) h .node a))
+        (λ e. s .sibs v (omega arith) h .node a)),
   )
 
   shallow : (v : ℕ) → 0 < v → v < n → depth t v ≤ 1024
@@ -60,7 +60,7 @@ module _ (tokens : List (List ℕ)) (t : Tables) (n : ℕ) (fs : Facts tokens (l
         lt-ltb (up t v) v (s .ups v a h),
         le-leb (depth t v) 1024 (shallow v a h),
         le-leb (num t v) 256 (omega (arith, numbered-le tokens (length tokens) (ending t v) (num t v) (fs .numbered v h), fit .count)),
-        links-true v h
+        links-true v h,
       ))
 
   unbroken : (fuel v : ℕ) → v + fuel ≤ n → firstBreak t n fuel v ≡ none

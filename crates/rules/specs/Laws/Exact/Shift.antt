@@ -1,6 +1,7 @@
--- Rule 5 skips no occurrence: the shift is at least 1, and no more than the way to the end of any token that stands further right.
+-- Rule 5 skips no occurrence: the shift is at least 1, at most S, and no more than the way to the end of any token that stands further right.
 use Prim.Native.Nat.{ℕ, _+_, _-_, _≤_, _<_}
 use native.Mathlib.Omega.{arith}
+use native.Mathlib.Nat.{le-trans}
 use mathlib.Core.Path.{_≡_, ap, sym, _∙_}
 use mathlib.Core.Bool.{true}
 use mathlib.Core.List.{List, []}
@@ -10,11 +11,21 @@ use lib.Dec.{leb}
 use lib.ListN.{length, getD}
 use Rattle.rules.specs.Lists.{any, every}
 use Rattle.rules.specs.Tokens.{agrees, fromRight, nodeShift, byteShift, shiftOf}
-use Rattle.rules.specs.Laws.Tests.{any-in, every-all, or-r, least-le, least-ge}
+use Rattle.rules.specs.Laws.Tests.{any-in, every-all, or-r, least-le, least-ge, least-upto}
 use Rattle.rules.specs.Laws.Exact.Reads.{Reads}
 
 pub shift-ge : (tokens : List (List ℕ)) (S : ℕ) (u : List ℕ) (o : Option ℕ) → 1 ≤ shiftOf tokens S u o
 shift-ge tokens S u o = omega (arith, least-ge (λ s. any (λ t. every (length u) (λ k. agrees t s k (fromRight u k))) tokens) 1 (S - 1))
+
+pub shift-upto : (tokens : List (List ℕ)) (S : ℕ) → 1 ≤ S → (u : List ℕ) (o : Option ℕ) → shiftOf tokens S u o ≤ S
+shift-upto tokens S h u o = omega (arith, node, byte o)
+  where
+    node : nodeShift tokens S u ≤ S
+    node = le-trans (least-upto _ 1 (S - 1)) (omega arith)
+
+    byte : (o : Option ℕ) → byteShift tokens S (length u) o ≤ S
+    byte none = h
+    byte (some x) = le-trans (least-upto _ 1 (S - 1)) (omega arith)
 
 module _ (img : ℕ → ℕ) where
   -- A byte that is known, where one is, is that of its place.

@@ -5,7 +5,7 @@ use native.Mathlib.Nat.{mul-le-mul-right}
 use mathlib.Core.Path.{_≡_, refl}
 use mathlib.Core.List.{List, [], _∷_, _++_}
 use mathlib.Core.Option.{Option, some, none}
-use Rattle.rules.specs.Rules.{Tree, Config, Event, done, place, hitAt, deeper, fresh, recall, endRound, taken, look, follow, trace}
+use Rattle.rules.specs.Rules.{Tree, Config, Event, fetched, recalled, hit, shifted, done, place, hitAt, deeper, fresh, recall, endRound, taken, look, follow, trace}
 use Rattle.rules.specs.Laws.Tests.{next-cases}
 
 -- how many steps are left, at the most, from boundary b and depth d
@@ -21,12 +21,14 @@ less-deeper n D b d h l = omega (arith, mul-le-mul-right (suc D) (let q : 1 ≤ 
 pub steps-enough : (n D S fuel : ℕ) → 1 ≤ S → n * (D + 1) < fuel → stepsLeft n D S 0 < fuel
 steps-enough n D S fuel h k = omega (arith, mul-le-mul-right (suc D) (let q : suc n - S ≤ n = omega arith in q))
 
--- the events of a whole sweep
+-- the events of a whole sweep: done comes last, and nowhere else
 abbrev pub Whole : {E : Type 0} → List (Event E) → Type 0
-Whole {E} es = (before : List (Event E)) × (es ≡ before ++ (done ∷ []))
-
-pub whole-cons : {E : Type 0} (e : Event E) (es : List (Event E)) → Whole es → Whole (e ∷ es)
-whole-cons e es w = (e ∷ w .0, cc (w .1))
+Whole [] = ⊥
+Whole (fetched p ∷ es) = Whole es
+Whole (recalled p ∷ es) = Whole es
+Whole (hit e i ∷ es) = Whole es
+Whole (shifted b ss ∷ es) = Whole es
+Whole (done ∷ es) = es ≡ []
 
 -- What is asked of the tree.
 pub record Finite {E : Type 0} (tree : Tree E) (size : E → ℕ) (D : ℕ) : Type 0 where
@@ -49,12 +51,12 @@ module _ {E : Type 0} (tree : Tree E) (size : E → ℕ) (D : ℕ) (finite : Fin
     end-whole o =
         let t = finite .moves (c .node) o in
         let c′ = endRound tree c o .config in
-        whole-cons _ _ (ih c′ (record { sized = finite .bare; deep = omega arith })
-        (omega (arith, less-end n D (c .boundary) (c′ .boundary) (c .depth) h (omega arith) (s .deep))))
+        ih c′ (record { sized = finite .bare; deep = omega arith })
+        (omega (arith, less-end n D (c .boundary) (c′ .boundary) (c .depth) h (omega arith) (s .deep)))
 
     hit-whole : (t : ℕ) (es : List (Event E)) → Whole es → Whole (hitAt (c .boundary) t ++ es)
     hit-whole zero es w = w
-    hit-whole (suc t) es w = whole-cons _ es w
+    hit-whole (suc t) es w = w
 
     taken-whole : (x : ℕ) (o : Option E) → tree .child (c .node) x ≡ o → Whole (taken tree c x o .events ++ rest (taken tree c x o .config))
     taken-whole x none e = end-whole (some x)
@@ -68,14 +70,14 @@ module _ {E : Type 0} (tree : Tree E) (size : E → ℕ) (D : ℕ) (finite : Fin
   unfolding trace
   whole ask zero k c s l = absurd (omega arith)
   whole ask (suc fuel) k c s l =
-      next-cases tree n c (λ x. Whole (follow tree ask (trace tree n ask fuel) k c x)) (λ _. ([], refl))
+      next-cases tree n c (λ x. Whole (follow tree ask (trace tree n ask fuel) k c x)) (λ _. refl)
       (λ h _. end-whole fuel c s h l (trace tree n ask fuel k) (whole ask fuel k) none)
       (λ h _. looked h (whole ask fuel) (recall tree (c .stretches) (place c)))
     where
       looked : c .boundary ≤ n → ((k : ℕ) → Enough fuel (trace tree n ask fuel k)) → (o : Option ℕ)
           → Whole (follow tree ask (trace tree n ask fuel) k c (look tree c o))
-      looked h ih none = whole-cons _ _ (taken-whole fuel c s h l (trace tree n ask fuel (k + 1)) (ih (k + 1)) (ask k (place c)) _ refl)
-      looked h ih (some x) = whole-cons _ _ (taken-whole fuel c s h l (trace tree n ask fuel k) (ih k) x _ refl)
+      looked h ih none = taken-whole fuel c s h l (trace tree n ask fuel (k + 1)) (ih (k + 1)) (ask k (place c)) _ refl
+      looked h ih (some x) = taken-whole fuel c s h l (trace tree n ask fuel k) (ih k) x _ refl
 
   pub sweep-ends : (S : ℕ) → 1 ≤ S → (ask : ℕ → ℕ → ℕ) (fuel : ℕ) → n * (D + 1) < fuel → Whole (trace tree n ask fuel 0 (fresh tree S))
   sweep-ends S h ask fuel l =

@@ -1,0 +1,46 @@
+-- Demand 2: the hits are exactly the occurrences, and the places fetched are those of the reading rules. Here for the sweep of
+-- one unchanging image by single bytes, over tables that begin with the built ones.
+use Prim.Native.Nat.{ℕ, zero, suc}
+use mathlib.Core.Path.{_≡_}
+use mathlib.Core.List.{List, [], _∷_, _++_}
+use lib.ListN.{length, getD, take}
+use Rattle.rules.specs.Tokens.{shortestOf}
+use Rattle.rules.specs.Sweep.{happens, bytesOf, places, hits, Occurrences}
+use Rattle.book.specs.Book.{readBook, accepted}
+use Rattle.trie.specs.Tables.{Tables, nodes, built, Lent}
+use Rattle.scan.specs.State.{Scan}
+use Rattle.scan.specs.Start.{start}
+use Rattle.scan.specs.Calls.{Answer, fetch, found, over, refused, Stepped, carryOn, supply}
+use Rattle.scan.specs.Answers.{answers, placesIn, hitsIn}
+
+-- What the first calls answer, of which there are at most `calls` and `r` is the first: each place to fetch is supplied with
+-- the image's byte, a hit is carried on from, and after done or a refusal no call is made.
+abbrev pub swept : Tables → List ℕ → ℕ → Stepped → List Answer
+swept t image zero r = []
+swept t image (suc calls) r =
+    r .answer ∷ elim (r .answer) [
+      | fetch p ↦ swept t image calls (supply t (r .state) (getD image p 0))
+      | found e i ↦ swept t image calls (carryOn t (r .state))
+      | over ↦ []
+      | refused k v ↦ []
+    ]
+
+-- `said calls` is what the first calls answer; `whole` is what the rules say in all.
+pub record Demand2 (tokens : List (List ℕ)) (image : List ℕ) (said : ℕ → List Answer) : Type 0 where
+  pub whole : List Answer
+  pub rules : whole ≡ answers (happens tokens (length image) (bytesOf image))
+  -- the calls answer what the rules say, and the last answer is done
+  pub answered : (calls : ℕ) → said calls ≡ take calls whole
+  pub ends : (before : List Answer) × (whole ≡ before ++ (over ∷ []))
+  -- the places fetched are the rules', and the hits are exactly the occurrences
+  pub fetches : placesIn whole ≡ places (happens tokens (length image) (bytesOf image))
+  pub finds : hitsIn whole ≡ hits (happens tokens (length image) (bytesOf image))
+  pub occurrences : Occurrences tokens image (hitsIn whole)
+
+-- Demand 2 in one piece: for every accepted book, all tables that begin with its built ones, and every image that starting takes.
+unfoldable pub Demand2For : Type 0
+Demand2For =
+    (book : List ℕ) (tokens : List (List ℕ)) → readBook book ≡ accepted tokens →
+    (t : Tables) → Lent t (built tokens) →
+    (image : List ℕ) (s : Scan) → start (length image) (shortestOf tokens) (length (nodes tokens)) ≡ accepted s →
+    Demand2 tokens image (λ calls. swept t image calls (carryOn t s))

@@ -1,0 +1,7 @@
+-- The two theorems, and what they rest on: tables and state once a sweep is started (Ready), the sweep of one image (Swept), lists of
+-- calls (Lists).
+pub mod Ready
+pub mod Swept
+pub mod Demand2
+pub mod Lists
+pub mod Demand3

@@ -1,0 +1,63 @@
+-- Demand 2 holds.
+use Prim.Native.Nat.{ℕ, suc, _+_, _*_, _≤_}
+use native.Mathlib.Omega.{arith}
+use mathlib.Core.Path.{_≡_, refl, sym, subst, _∙_}
+use mathlib.Core.Bool.{false}
+use mathlib.Core.List.{List}
+use lib.ListN.{length}
+use Rattle.rules.specs.Rules.{fresh, trace}
+use Rattle.rules.specs.Tokens.{shortestOf, longestOf}
+use Rattle.rules.specs.Sweep.{happens, bytesOf, Occurrences}
+use Rattle.rules.specs.Laws.Limit.Ends.{steps-enough}
+use Rattle.book.specs.Book.{readBook, accepted, maxImage}
+use Rattle.book.specs.Laws.Sweep.{book-exact}
+use Rattle.trie.specs.Tables.{Tables, nodes, built, Lent}
+use Rattle.trie.specs.Walks.{ofTables}
+use Rattle.scan.specs.State.{Scan}
+use Rattle.scan.specs.Start.{started, start}
+use Rattle.scan.specs.Calls.{carryOn}
+use Rattle.scan.specs.Answers.{answers}
+use Rattle.scan.specs.Laws.Walk.{fresh-sat}
+use Rattle.scan.specs.Laws.Settle.{Settled, carry-settles}
+use Rattle.demands.specs.Demand2.{swept, Demand2, Demand2For}
+use Rattle.demands.specs.Laws.Ready.{start-fresh, given, same-answers}
+use Rattle.demands.specs.Laws.Swept.{answers-end, answers-places, answers-hits, ends-over, swept-right}
+
+module _ (book : List ℕ) (tokens : List (List ℕ)) (read : readBook book ≡ accepted tokens) (t : Tables) (lent : Lent t (built tokens))
+    (image : List ℕ) where
+  -- The first call settles what the rules say in all.
+  first-settles : (h : length image ≤ maxImage)
+      → Settled (given book tokens read t lent (length image) h) (bytesOf image) 0 (answers (happens tokens (length image) (bytesOf image)))
+      (carryOn t (started (length image) (shortestOf tokens) (length (nodes tokens))))
+  first-settles h =
+      let n = length image in
+      let S = shortestOf tokens in
+      let g = given book tokens read t lent n h in
+      let fuel = suc n * (longestOf tokens + 2) in
+      carry-settles g (bytesOf image) (fresh (ofTables t (length (nodes tokens)) S) S) 0 (fresh-sat g) _ (
+        fuel,
+        λ _. steps-enough n (longestOf tokens) S fuel (g .setting .positive) (omega arith),
+        same-answers book tokens read t lent n h (bytesOf image),
+      )
+
+  image-demand2 : (s : Scan) → start (length image) (shortestOf tokens) (length (nodes tokens)) ≡ accepted s
+      → Demand2 tokens image (λ calls. swept t image calls (carryOn t s))
+  image-demand2 s e =
+      let f = start-fresh (length image) (shortestOf tokens) (length (nodes tokens)) s e in
+      let es = happens tokens (length image) (bytesOf image) in
+      let x = book-exact book tokens read image in
+      let done = answers-end es (x .whole) in
+      record {
+        whole = answers es;
+        rules = refl;
+        answered = λ calls.
+            rw (f .1) (swept-right (given book tokens read t lent (length image) (f .0)) image calls 0 (answers es) done _ (first-settles (f .0)));
+        ends = ends-over (answers es) done;
+        fetches = answers-places es (x .whole);
+        finds = answers-hits es (x .whole);
+        occurrences = subst (Occurrences tokens image) (sym (answers-hits es (x .whole))) (x .occurrences);
+      }
+
+pub demand2 : Demand2For
+unfolding Demand2For
+demand2 = image-demand2

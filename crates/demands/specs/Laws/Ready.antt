@@ -1,0 +1,63 @@
+-- What is given once a book is built and a sweep is started: tables that represent the tokens, and the fresh state.
+use Prim.Native.Nat.{ℕ, suc, _+_, _*_, _≤_}
+use native.Mathlib.Omega.{arith}
+use mathlib.Core.Path.{_≡_, ap, _∙_}
+use mathlib.Core.Bool.{Bool, true, false}
+use mathlib.Core.List.{List, []}
+use borrow.Author.Tests.{ltb-false}
+use lib.Dec.{ltb}
+use lib.ListN.{length}
+use Rattle.rules.specs.Rules.{fresh, trace}
+use Rattle.rules.specs.Tokens.{shortestOf, longestOf}
+use Rattle.rules.specs.Sweep.{happens}
+use Rattle.rules.specs.Laws.Lengths.{shortest-is}
+use Rattle.rules.specs.Laws.Tests.{decide}
+use Rattle.rules.specs.Laws.Alike.{trace-same}
+use Rattle.book.specs.Book.{Verdict, readBook, accepted, refused, maxImage}
+use Rattle.book.specs.Laws.Accepted.{accepted-fit, accepted-some, accepted-setting, accepted-longest}
+use Rattle.trie.specs.Tables.{Tables, nodes, built, Lent}
+use Rattle.trie.specs.Walks.{ending, ofTables}
+use Rattle.trie.specs.Laws.Represents.{built-represents}
+use Rattle.scan.specs.State.{Scan}
+use Rattle.scan.specs.Start.{started, start, tooLong}
+use Rattle.scan.specs.Answers.{answers}
+use Rattle.scan.specs.Laws.Mild.{events-answers}
+use Rattle.scan.specs.Laws.Walk.{Given, alike, fresh-sat}
+
+-- Starting takes an image within its limit, and hands back the fresh state.
+pub start-fresh : (n S count : ℕ) (s : Scan) → start n S count ≡ accepted s → (n ≤ maxImage) × (s ≡ started n S count)
+start-fresh n S count s =
+    decide (λ v. v ≡ accepted s → (n ≤ maxImage) × (s ≡ started n S count)) (tooLong n) (refused 8 maxImage) (accepted (started n S count))
+    (λ _ e. absurd (let z : _≡_ {A = ℕ} 0 1 = cc in omega arith))
+    (λ f e. (ltb-false maxImage n f, cc))
+
+module _ (book : List ℕ) (tokens : List (List ℕ)) (read : readBook book ≡ accepted tokens) (t : Tables) (lent : Lent t (built tokens)) where
+  pub given : (n : ℕ) → n ≤ maxImage → Given tokens (shortestOf tokens) (longestOf tokens) t (length (nodes tokens)) n
+  given n h =
+      let f = accepted-fit book tokens read in
+      let r = built-represents tokens f t lent in
+      let s = shortest-is tokens (accepted-some book tokens read) in
+      record {
+        setting = accepted-setting book tokens read;
+        long = accepted-longest book tokens read .0;
+        short = accepted-longest book tokens read .1;
+        first = omega (arith, f .each (s .0) (s .1));
+        represents = r;
+        nodes = omega (arith, r .few, f .bodies);
+        image = h;
+      }
+
+  -- What the rules say over the tokens they say over the tables.
+  pub same-answers : (n : ℕ) → n ≤ maxImage → (ask : ℕ → ℕ → ℕ)
+      → answers (happens tokens n ask)
+      ≡ answers (trace (ofTables t (length (nodes tokens)) (shortestOf tokens)) n ask (suc n * (longestOf tokens + 2)) 0
+      (fresh (ofTables t (length (nodes tokens)) (shortestOf tokens)) (shortestOf tokens)))
+  unfolding happens
+  same-answers n h ask =
+      let S = shortestOf tokens in
+      let count = length (nodes tokens) in
+      let g = given n h in
+      let fuel = suc n * (longestOf tokens + 2) in
+      let c = fresh (ofTables t count S) S in
+      ap answers (trace-same (alike g) n ask fuel 0 c (fresh-sat g .apt))
+      ∙ events-answers (ending t) (trace (ofTables t count S) n ask fuel 0 c)
