@@ -1,1 +1,116 @@
--- Sample sweeps by the rules over tokens, as one table.
+-- Sample sweeps by the rules over tokens, as one table: P1 to P5 of document 01, and three that pin rule 4 and the byte taken from
+-- a stretch. Each row says the hits, the places fetched, and the limit on them.
+use Prim.Native.Nat.{ℕ}
+use mathlib.Core.Path.{_≡_, refl}
+use mathlib.Core.Bool.{Bool, true, false, _&&_}
+use mathlib.Core.List.{List, [], _∷_}
+use lib.Dec.{eqb}
+use lib.ListN.{length, replicate}
+use Rattle.rules.specs.Lists.{same}
+use Rattle.rules.specs.Rules.{trace}
+use Rattle.rules.specs.Tokens.{longestOf}
+use Rattle.rules.specs.Sweep.{happens, bytesOf, places, hits, limit}
+
+pub record Sample : Type 0 where
+  pub tokens : List (List ℕ)
+  pub image : List ℕ
+  pub found : List (ℕ × ℕ)
+  pub fetches : List ℕ
+  pub most : ℕ
+
+-- letters
+abbrev pub a : ℕ
+a = 97
+
+abbrev pub b : ℕ
+b = 98
+
+abbrev pub c : ℕ
+c = 99
+
+abbrev pub x : ℕ
+x = 120
+
+abbrev pub p1 : Sample
+p1 = record {
+  tokens = (a ∷ x ∷ b ∷ b ∷ x ∷ []) ∷ [];
+  image = c ∷ c ∷ c ∷ a ∷ x ∷ b ∷ b ∷ x ∷ [];
+  found = (8, 1) ∷ [];
+  fetches = 4 ∷ 3 ∷ 7 ∷ 6 ∷ 5 ∷ 4 ∷ 3 ∷ [];
+  most = 82;
+}
+
+abbrev pub p2 : Sample
+p2 = record {
+  tokens = (b ∷ []) ∷ (b ∷ a ∷ a ∷ a ∷ a ∷ []) ∷ [];
+  image = replicate 8 a;
+  found = [];
+  fetches = 0 ∷ 1 ∷ 0 ∷ 2 ∷ 1 ∷ 0 ∷ 3 ∷ 2 ∷ 1 ∷ 0 ∷ 4 ∷ 5 ∷ 4 ∷ 3 ∷ 2 ∷ 1 ∷ 6 ∷ 7 ∷ 6 ∷ 5 ∷ 4 ∷ 3 ∷ [];
+  most = 82;
+}
+
+abbrev pub p3 : Sample
+p3 = record {
+  tokens = (a ∷ []) ∷ (a ∷ a ∷ []) ∷ [];
+  image = replicate 3 a;
+  found = (1, 1) ∷ (2, 1) ∷ (2, 2) ∷ (3, 1) ∷ (3, 2) ∷ [];
+  fetches = 0 ∷ 1 ∷ 0 ∷ 2 ∷ 1 ∷ [];
+  most = 17;
+}
+
+abbrev pub p4 : Sample
+p4 = record { tokens = p1 .tokens; image = []; found = []; fetches = []; most = 10 }
+
+abbrev pub p5 : Sample
+p5 = record { tokens = p1 .tokens; image = a ∷ x ∷ b ∷ b ∷ []; found = []; fetches = []; most = 46 }
+
+-- A stretch that begins where the matched part begins is wholly inside it.
+abbrev pub inside : Sample
+inside = record {
+  tokens = (a ∷ a ∷ a ∷ a ∷ a ∷ []) ∷ (a ∷ a ∷ []) ∷ [];
+  image = replicate 6 a;
+  found = (2, 2) ∷ (3, 2) ∷ (4, 2) ∷ (5, 2) ∷ (5, 1) ∷ (6, 2) ∷ (6, 1) ∷ [];
+  fetches = 1 ∷ 0 ∷ 2 ∷ 1 ∷ 0 ∷ 3 ∷ 2 ∷ 1 ∷ 0 ∷ 4 ∷ 5 ∷ [];
+  most = 64;
+}
+
+-- The byte taken from a stretch is that of the place, not the one left of it,
+abbrev pub recalledLeft : Sample
+recalledLeft = record {
+  tokens = (b ∷ a ∷ a ∷ b ∷ []) ∷ (a ∷ b ∷ []) ∷ (a ∷ []) ∷ [];
+  image = b ∷ b ∷ a ∷ a ∷ b ∷ b ∷ a ∷ a ∷ a ∷ [];
+  found = (3, 3) ∷ (4, 3) ∷ (5, 2) ∷ (5, 1) ∷ (7, 3) ∷ (8, 3) ∷ (9, 3) ∷ [];
+  fetches = 0 ∷ 1 ∷ 0 ∷ 2 ∷ 3 ∷ 4 ∷ 3 ∷ 2 ∷ 1 ∷ 5 ∷ 6 ∷ 7 ∷ 8 ∷ [];
+  most = 89;
+}
+
+-- nor the one right of it.
+abbrev pub recalledRight : Sample
+recalledRight = record {
+  tokens = (b ∷ a ∷ b ∷ a ∷ []) ∷ (b ∷ a ∷ b ∷ a ∷ b ∷ []) ∷ [];
+  image = b ∷ b ∷ a ∷ b ∷ a ∷ b ∷ a ∷ a ∷ [];
+  found = (5, 1) ∷ (6, 2) ∷ (7, 1) ∷ [];
+  fetches = 3 ∷ 2 ∷ 1 ∷ 0 ∷ 4 ∷ 3 ∷ 2 ∷ 1 ∷ 5 ∷ 6 ∷ 7 ∷ 6 ∷ [];
+  most = 82;
+}
+
+-- the same hits in the same order
+abbrev pub samePairs : List (ℕ × ℕ) → List (ℕ × ℕ) → Bool
+samePairs [] [] = true
+samePairs [] (q ∷ qs) = false
+samePairs (p ∷ ps) [] = false
+samePairs (p ∷ ps) (q ∷ qs) = eqb (p .0) (q .0) && eqb (p .1) (q .1) && samePairs ps qs
+
+-- What the rules make of the tokens and the image is what the row says.
+abbrev pub right : Sample → Bool
+right s =
+    let es = happens (s .tokens) (length (s .image)) (bytesOf (s .image)) in
+    samePairs (hits es) (s .found) && same (places es) (s .fetches) && eqb (limit (length (s .image)) (longestOf (s .tokens))) (s .most)
+
+allRight : List Sample → Bool
+allRight [] = true
+allRight (s ∷ ss) = right s && allRight ss
+
+samples-right : allRight (p1 ∷ p2 ∷ p3 ∷ p4 ∷ p5 ∷ inside ∷ recalledLeft ∷ recalledRight ∷ []) ≡ true
+unfolding allRight happens trace
+samples-right = refl
