@@ -1,4 +1,4 @@
 -- The revocation book, samples of its refusals, and laws of the books that are accepted.
 pub mod Book
-pub mod Samples
+pub mod Examples
 pub mod Laws

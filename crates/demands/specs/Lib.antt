@@ -2,5 +2,5 @@
 -- and the theorems (`Laws.Demand2.demand2`, `Laws.Demand3.demand3`).
 pub mod Demand2
 pub mod Demand3
-pub mod Samples
+pub mod Examples
 pub mod Laws

@@ -3,5 +3,5 @@ pub mod Lists
 pub mod Rules
 pub mod Tokens
 pub mod Sweep
-pub mod Samples
+pub mod Examples
 pub mod Laws

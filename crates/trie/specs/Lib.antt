@@ -2,5 +2,5 @@
 pub mod Tables
 pub mod Walks
 pub mod Broken
-pub mod Samples
+pub mod Examples
 pub mod Laws

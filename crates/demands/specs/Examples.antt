@@ -6,7 +6,7 @@ use mathlib.Core.List.{List, [], _∷_}
 use lib.Dec.{eqb}
 use Rattle.rules.specs.Rules.{trace}
 use Rattle.rules.specs.Sweep.{happens}
-use Rattle.rules.specs.Samples.{Sample, a, b, x, p1, p2, p3, p4, p5, right}
+use Rattle.rules.specs.Examples.{Sample, a, b, x, p1, p2, p3, p4, p5, right}
 use Rattle.book.specs.Book.{Reading, readBook, accepted, refused}
 
 -- What a row says of its book: it is accepted, and its tokens make a sample sweep; or it is refused.
