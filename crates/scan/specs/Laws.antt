@@ -1,6 +1,10 @@
--- The laws of the calls over tables that represent the tokens: what a state comes to (Walk), that it is in its ranges (Range),
--- and that a call in turn answers what the rules say next (Settle).
+-- The laws of the calls. Over tables that represent the tokens: what a state comes to (Walk), that it is in its ranges (Range),
+-- and that a call in turn answers what the rules say next (Settle). Over any tables that pass refusal 9: a state in its ranges
+-- (Within) stays there by a step (Stay) and by a call (Kept).
 pub mod Mild
 pub mod Walk
+pub mod Within
 pub mod Range
 pub mod Settle
+pub mod Stay
+pub mod Kept

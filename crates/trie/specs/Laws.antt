@@ -1,5 +1,6 @@
 -- The laws of the tables: what one token more does to them (Growth to Build), that this makes the built ones (Same), and that
--- these stand for exactly the endings of the tokens (Nodes, Sound, Represents); what building gives (Building).
+-- these stand for exactly the endings of the tokens (Nodes, Sound, Represents); what building gives (Building); and what holds of
+-- any tables that refusal 9 does not meet (Unbroken).
 pub mod Growth
 pub mod Shape
 pub mod Grow
@@ -11,3 +12,4 @@ pub mod Same
 pub mod Sound
 pub mod Represents
 pub mod Building
+pub mod Unbroken

@@ -52,7 +52,7 @@ FineNext tree size D S n c m (goes w) = FineStep size D S n c m w
 
 -- What a round leaves that ends here, before rule 6 drops some of it.
 module _ {E : Type 0} (tree : Tree E) (size : E → ℕ) (D : ℕ) (c : Config E) (h : Held size D c) where
-  ended-laid : Laid D (c .boundary) 0 (ended tree c)
+  pub ended-laid : Laid D (c .boundary) 0 (ended tree c)
   ended-laid =
       let from = c .boundary - c .depth in
       laid D (c .boundary) from _ 0 _ (c .stretches) (cut-le D (c .boundary) from 0 (c .stretches) (omega arith) (h .spans))

@@ -49,6 +49,29 @@ pub and-n : (a b : Bool) (P : Type 0) → (a && b) ≡ false → (a ≡ false �
 and-n true b P t f g = g t
 and-n false b P t f g = f refl
 
+-- `a && b && ..`, as the language groups it, and its tests by their numbers
+abbrev joined : Bool → List Bool → Bool
+joined a [] = a
+joined a (b ∷ l) = joined (a && b) l
+
+abbrev pub conj : List Bool → Bool
+conj [] = true
+conj (a ∷ l) = joined a l
+
+abbrev pub Passed : List Bool → Type 0
+Passed l = (i : ℕ) → getD l i true ≡ true
+
+joined-out : (a : Bool) (l : List Bool) → joined a l ≡ true → Passed (a ∷ l)
+joined-out a [] h zero = h
+joined-out a [] h (suc i) = refl
+joined-out a (b ∷ l) h zero = and-l a b (joined-out (a && b) l h 0)
+joined-out a (b ∷ l) h (suc zero) = and-r a b (joined-out (a && b) l h 0)
+joined-out a (b ∷ l) h (suc (suc i)) = joined-out (a && b) l h (suc i)
+
+pub passed : (l : List Bool) → conj l ≡ true → Passed l
+passed [] h i = refl
+passed (a ∷ l) h i = joined-out a l h i
+
 pub or-r : (a b : Bool) → (a ≡ false → b ≡ true) → (a || b) ≡ true
 or-r true b f = refl
 or-r false b f = f refl

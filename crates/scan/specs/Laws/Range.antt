@@ -1,35 +1,28 @@
 -- A state that the calls come to is in range, so that a call is refused only out of turn.
 use Prim.Native.Nat.{ℕ, _+_, _-_, _*_, _^_, _≤_, _<_, min}
 use native.Mathlib.Omega.{arith}
-use native.Mathlib.Nat.{pow-le-pow-right, mul-le-mul-left, lt-of-not-le}
-use mathlib.Core.Path.{_≡_, refl}
+use native.Mathlib.Nat.{mul-le-mul-left}
+use mathlib.Core.Path.{_≡_}
 use mathlib.Core.Bool.{Bool, true, false, _||_, not}
 use mathlib.Core.List.{List, [], _∷_}
 use mathlib.Core.Option.{some, none}
-use borrow.Author.Tests.{lt-ltb, le-leb, eq-eqb}
 use lib.ListN.{length}
 use Rattle.rules.specs.Rules.{Stretch, Config, next}
 use Rattle.rules.specs.Sweep.{digits4, limit}
 use Rattle.rules.specs.Laws.Digits.{limit-mono, reached4}
 use Rattle.rules.specs.Laws.Limit.Span.{Spans, Upto, short}
-use Rattle.rules.specs.Laws.All.{All}
 use Rattle.rules.specs.Laws.Image.{stretchesOf, stretches-length}
-use Rattle.rules.specs.Laws.Alike.{AptStretch}
 use Rattle.trie.specs.Tables.{Tables}
-use Rattle.trie.specs.Walks.{ending, depth, ofTables}
+use Rattle.trie.specs.Walks.{ending, ofTables}
+use Rattle.trie.specs.Laws.Unbroken.{unbroken}
 use Rattle.scan.specs.Calls.{refused, outOfTurn, judged}
-use Rattle.scan.specs.State.{Scan, rising, wantsByte, inRange}
-use Rattle.scan.specs.Laws.Walk.{Given, Sat, alike}
+use Rattle.scan.specs.State.{Scan, wantsByte, inRange}
+use Rattle.scan.specs.Laws.Walk.{Given, Sat}
+use Rattle.scan.specs.Laws.Within.{Ready, Within, four-few, in-range}
 
 -- The state after k bytes.
 abbrev pub stateAt : ℕ → ℕ → ℕ → Config ℕ → Bool → ℕ → Scan
 stateAt n S count c due k = record { image = n; shortest = S; count = count; config = c; due = due; supplied = k }
-
--- Powers of 4 up to 1,024.
-pub four-few : (k : ℕ) → 4 ^ k ≤ 1024 → k ≤ 5
-four-few k h =
-    let l : k < 6 = lt-of-not-le (λ i. omega (arith, pow-le-pow-right {n = 4} (omega arith) {i = 6} {j = k} i)) in
-    omega arith
 
 limit-cap : (n D : ℕ) → 1 ≤ D → D ≤ 1024 → n ≤ 16777216 → limit n D < 1000000000
 limit-cap n D h k i =
@@ -48,45 +41,44 @@ module _ {tokens : List (List ℕ)} {S D : ℕ} {t : Tables} {count n : ℕ} (gi
   pub sat-cap : (c : Config ℕ) (k : ℕ) → Sat given c k → k < 1000000000
   sat-cap c k s = omega (arith, sat-below c k s, limit-cap n D (given .long) (given .short) (given .image))
 
-  module _ (s : Scan) (nodes : s .count ≡ count) (image : s .image ≡ n) where
-    rising-true : (lo : ℕ) (ms : List (Stretch ℕ)) → All (AptStretch (alike given)) ms
-        → Spans D (s .config .boundary) lo (stretchesOf (ending t) ms) → Upto n (stretchesOf (ending t) ms) → rising t s lo ms ≡ true
-    rising-true lo [] a p u = refl
-    rising-true lo (m ∷ ms) a p u =
-        let b = s .config .boundary in
-        cc (
-          le-leb lo (m .left) (omega arith),
-          lt-ltb (m .left) (m .right) (omega arith),
-          le-leb (m .right) (s .image) (omega arith),
-          lt-ltb (m .right) b (omega arith),
-          lt-ltb (m .node) (s .count) (omega arith),
-          eq-eqb (depth t (m .node)) (m .right - m .left) (a .0 .1),
-          le-leb (4 * (b - m .right)) (m .right - m .left) (omega arith),
-          rising-true (m .right) ms (a .1) (p .4) (u .1),
-        )
+  -- Spans do not look at nodes.
+  own-spans : (b lo : ℕ) (ms : List (Stretch ℕ)) → Spans D b lo (stretchesOf (ending t) ms) → Spans 1024 b lo ms
+  own-spans b lo [] p = tt
+  own-spans b lo (m ∷ ms) p = (p .0, p .1, omega (arith, p .2, given .short), p .3, own-spans b (m .right) ms (p .4))
+
+  own-upto : (ms : List (Stretch ℕ)) → Upto n (stretchesOf (ending t) ms) → Upto n ms
+  own-upto [] u = tt
+  own-upto (m ∷ ms) u = (u .0, own-upto ms (u .1))
+
+  sat-within : (c : Config ℕ) (k : ℕ) → Sat given c k → Within t count n c
+  sat-within c k s = record {
+    node = s .apt .node;
+    held = record {
+      sized = s .apt .sized;
+      deep = omega (arith, s .fine .held .deep, given .short);
+      inside = s .fine .held .inside;
+      spans = own-spans (c .boundary) 0 (c .stretches) (s .fine .held .spans);
+    };
+    near = s .near;
+    fits = s .apt .stretches;
+    upto = own-upto (c .stretches) (s .fine .upto);
+  }
+
+  sat-ready : Ready t count n S
+  sat-ready = record {
+    tree = unbroken t count (given .represents .some-node) (given .represents .fine);
+    nodes = given .nodes;
+    image = given .image;
+    positive = given .setting .positive;
+    first = given .first;
+  }
 
   module _ (c : Config ℕ) (due : Bool) (k : ℕ) (s : Sat given c k)
       (w : (not due || wantsByte (next (ofTables t count S) n c)) ≡ true) where
-    in-range : inRange t (stateAt n S count c due k) ≡ true
-    in-range =
-        let st = stateAt n S count c due k in
-        cc (
-          le-leb 1 count (given .represents .some-node),
-          le-leb count 16385 (given .nodes),
-          le-leb n 16777216 (given .image),
-          le-leb 1 S (given .setting .positive),
-          le-leb S 1024 (given .first),
-          lt-ltb (c .node) count (s .apt .node),
-          eq-eqb (depth t (c .node)) (c .depth) (s .apt .sized),
-          le-leb (c .depth) (c .boundary) (s .fine .held .inside),
-          le-leb (c .boundary) (n + 1024) (s .near),
-          le-leb k 1000000000 (omega (arith, sat-cap c k s)),
-          le-leb (length (c .stretches)) 5 (four-few (length (c .stretches)) (omega (arith, sat-few c k s, given .short))),
-          rising-true st refl refl 0 (c .stretches) (s .apt .stretches) (s .fine .held .spans) (s .fine .upto),
-          w,
-        )
+    sat-range : inRange t (stateAt n S count c due k) ≡ true
+    sat-range = in-range t (stateAt n S count c due k) sat-ready (omega (arith, sat-cap c k s)) (sat-within c k s) w
 
     -- A call is judged by its turn alone.
     pub judged-turn : (turn : Bool)
         → judged t (stateAt n S count c due k) turn ≡ elim (outOfTurn (stateAt n S count c due k) turn) [ true ↦ some (refused 11 0) | false ↦ none ]
-    judged-turn turn = cc (given .represents .fine, in-range)
+    judged-turn turn = cc (given .represents .fine, sat-range)

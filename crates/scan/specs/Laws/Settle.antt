@@ -32,7 +32,7 @@ onHit t s fuel w x = elim x [
   | hitOf e i ↦ record { state = moved s (w .config) false; answer = found e i }
 ]
 
-abbrev onNext : Tables → Scan → ℕ → Config ℕ → Next ℕ → Stepped
+abbrev pub onNext : Tables → Scan → ℕ → Config ℕ → Next ℕ → Stepped
 onNext t s fuel c x = elim x [
   | finished ↦ record { state = moved s c false; answer = over }
   | wants at ↦ record { state = moved s c true; answer = fetch at }
@@ -40,7 +40,7 @@ onNext t s fuel c x = elim x [
 ]
 
 -- A call, by how it is judged.
-abbrev onJudged : Scan → Stepped → Option Answer → Stepped
+abbrev pub onJudged : Scan → Stepped → Option Answer → Stepped
 onJudged s r j = elim j [ some a ↦ record { state = s; answer = a } | none ↦ r ]
 
 -- Going on is never refused.

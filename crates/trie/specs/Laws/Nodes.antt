@@ -8,7 +8,7 @@ use mathlib.Core.Option.{Option, some, none}
 use borrow.Author.Tests.{eqb-true, eqb-false, lt-ltb, ltb-true}
 use lib.Dec.{eqb, ltb}
 use lib.ListN.{length, getD, take, drop, length-append}
-use lib.Seq.{append-snoc, drop-nil}
+use lib.Seq.{append-snoc}
 use Rattle.rules.specs.Lists.{same, any, every, least, numberFrom}
 use Rattle.rules.specs.Tokens.{agrees, fromRight, ends, grown, shiftOf, longestOf}
 use Rattle.rules.specs.Laws.Tests.{clash, same-test, not-test, false-test, and-l, and-r, or-r, below-suc, split, any-in, any-out, least-same}
@@ -17,7 +17,7 @@ use Rattle.rules.specs.Laws.Lengths.{longest-ge}
 use Rattle.book.specs.Laws.Accepted.{Fit}
 use Rattle.trie.specs.Tables.{Tables}
 use Rattle.trie.specs.Walks.{childBy, ending, depth, lifted, words}
-use Rattle.trie.specs.Laws.Shape.{up, tag, head, Shape, Found, child-found, ending-step, ending-cons, ending-apart}
+use Rattle.trie.specs.Laws.Shape.{up, tag, head, Shape, Found, falling, way-lifts, child-found, ending-step, ending-cons, ending-apart}
 use Rattle.trie.specs.Laws.Insert.{num}
 use Rattle.trie.specs.Laws.Build.{Numbered, Facts}
 
@@ -176,12 +176,7 @@ module _ (tokens : List (List ℕ)) (t : Tables) (n : ℕ) (fs : Facts tokens (l
       cc (bytes j (up t v) (omega (arith, s .ups v a h)) (omega (arith, ap length e)))
 
   pub lifts : (j v : ℕ) → v < n → (lifted t j v < n) × (ending t (lifted t j v) ≡ drop j (ending t v))
-  lifts zero v h = (h, refl)
-  lifts (suc j) v h = split v 0
-      (λ e. let q = lifts j 0 (s .size) in
-      rw (e, s .root-up) (q .0, q .1 ∙ drop-nil j))
-      (λ e. let q = lifts j (up t v) (omega (arith, s .ups v (omega arith) h)) in
-      (q .0, q .1 ∙ cc (ending-step t n s v (omega arith) h)))
+  lifts = way-lifts t n (falling t n s)
 
   -- the words of the nodes are the tokens
   pub word : (p : List ℕ → Bool) → any p (words t n) ≡ any p tokens

@@ -6,10 +6,11 @@ use mathlib.Core.List.{List, [], _∷_}
 use mathlib.Core.Option.{Option, some, none}
 use borrow.Author.Tests.{eqb-true, eqb-false, eq-eqb, ne-eqb}
 use lib.Dec.{eqb}
-use lib.ListN.{getD}
+use lib.ListN.{getD, drop}
+use lib.Seq.{drop-nil}
 use Rattle.rules.specs.Laws.Tests.{decide, split}
 use Rattle.trie.specs.Tables.{Tables}
-use Rattle.trie.specs.Walks.{along, childBy, climb, ending}
+use Rattle.trie.specs.Walks.{along, childBy, climb, ending, lifted}
 use Rattle.trie.specs.Laws.Growth.{lastOf}
 
 abbrev pub up : Tables → ℕ → ℕ
@@ -38,6 +39,38 @@ pub record Shape (t : Tables) (n : ℕ) : Type 0 where
   pub heads : (v : ℕ) → v < n → Link t n v 0 (head t v)
   pub sibs : (v : ℕ) → 0 < v → v < n → Link t n (up t v) v (sib t v)
   pub apart : (v w : ℕ) → 0 < v → 0 < w → v < n → w < n → up t v ≡ up t w → tag t v ≡ tag t w → v ≡ w
+
+-- Parents are smaller nodes, the root's is itself: what the way up from a node needs.
+pub record Falling (t : Tables) (n : ℕ) : Type 0 where
+  pub size : 0 < n
+  pub root-up : up t 0 ≡ 0
+  pub ups : (v : ℕ) → 0 < v → v < n → up t v < v
+
+module _ (t : Tables) (n : ℕ) (s : Falling t n) where
+  up-le : (v : ℕ) → v < n → up t v ≤ v - 1
+  up-le v h = split v 0 (λ e. rw e (omega (arith, s .root-up))) (λ e. omega (arith, s .ups v (omega arith) h))
+
+  -- enough fuel is enough
+  climb-same : (f g v : ℕ) → v ≤ f → v ≤ g → v < n → climb t f v ≡ climb t g v
+  climb-same zero zero v a b h = refl
+  climb-same zero (suc g) v a b h = cc (eq-eqb v 0 (omega arith))
+  climb-same (suc f) zero v a b h = cc (eq-eqb v 0 (omega arith))
+  climb-same (suc f) (suc g) v a b h =
+      cc (climb-same f g (up t v) (omega (arith, up-le v h)) (omega (arith, up-le v h)) (omega (arith, up-le v h)))
+
+  pub way-step : (v : ℕ) → 0 < v → v < n → ending t v ≡ tag t v ∷ ending t (up t v)
+  way-step zero a h = absurd (omega arith)
+  way-step (suc v) a h =
+      let l = s .ups (suc v) a h in
+      cc (ne-eqb (suc v) 0 (λ e. omega arith), climb-same v (up t (suc v)) (up t (suc v)) (omega arith) (omega arith) (omega arith))
+
+  pub way-lifts : (j v : ℕ) → v < n → (lifted t j v < n) × (ending t (lifted t j v) ≡ drop j (ending t v))
+  way-lifts zero v h = (h, refl)
+  way-lifts (suc j) v h = split v 0
+      (λ e. let q = way-lifts j 0 (s .size) in
+      rw (e, s .root-up) (q .0, q .1 ∙ drop-nil j))
+      (λ e. let q = way-lifts j (up t v) (omega (arith, s .ups v (omega arith) h)) in
+      (q .0, q .1 ∙ cc (way-step v (omega arith) h)))
 
 -- the two tables say the same of the nodes below n
 pub record Agree (t t′ : Tables) (n : ℕ) : Type 0 where
@@ -83,22 +116,11 @@ module _ (t : Tables) (n : ℕ) (s : Shape t n) where
       (λ z. let q = s .sibs at a b .node (omega (arith, eqb-false (sib t at) 0 z)) in
       last-found p fuel (sib t at) (omega (arith, q .0)) (q .1) (q .2 ∙ c) (omega (arith, q .0)))
 
-  up-le : (v : ℕ) → v < n → up t v ≤ v - 1
-  up-le v h = split v 0 (λ e. rw e (omega (arith, s .root-up))) (λ e. omega (arith, s .ups v (omega arith) h))
-
-  -- enough fuel is enough
-  climb-same : (f g v : ℕ) → v ≤ f → v ≤ g → v < n → climb t f v ≡ climb t g v
-  climb-same zero zero v a b h = refl
-  climb-same zero (suc g) v a b h = cc (eq-eqb v 0 (omega arith))
-  climb-same (suc f) zero v a b h = cc (eq-eqb v 0 (omega arith))
-  climb-same (suc f) (suc g) v a b h =
-      cc (climb-same f g (up t v) (omega (arith, up-le v h)) (omega (arith, up-le v h)) (omega (arith, up-le v h)))
+  pub falling : Falling t n
+  falling = record { size = s .size; root-up = s .root-up; ups = s .ups }
 
   pub ending-step : (v : ℕ) → 0 < v → v < n → ending t v ≡ tag t v ∷ ending t (up t v)
-  ending-step zero a h = absurd (omega arith)
-  ending-step (suc v) a h =
-      let l = s .ups (suc v) a h in
-      cc (ne-eqb (suc v) 0 (λ e. omega arith), climb-same v (up t (suc v)) (up t (suc v)) (omega arith) (omega arith) (omega arith))
+  ending-step = way-step t n falling
 
   pub ending-nil : (v : ℕ) → v < n → ending t v ≡ [] → v ≡ 0
   ending-nil v h e = split v 0 (λ z. z) (λ z. absurd (let q : _≡_ {A = ℕ} 0 1 = cc (ending-step v (omega arith) h) in omega arith))
@@ -130,4 +152,4 @@ module _ (t : Tables) (n : ℕ) (s : Shape t n) where
       go zero v h = refl
       go (suc f) v h =
           let e = g .up-same v h in
-          cc (g .tag-same v h, go f (up t v) (omega (arith, up-le v h)))
+          cc (g .tag-same v h, go f (up t v) (omega (arith, up-le t n falling v h)))
