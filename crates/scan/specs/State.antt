@@ -18,6 +18,16 @@ pub record Scan : Type 0 where
   pub due : Bool
   pub supplied : ℕ
 
+-- the ends of the ranges: nodes, S, b in an image of n bytes, bytes supplied, stretches
+abbrev pub maxNodes : ℕ
+maxNodes = 1 + maxBodies
+
+abbrev pub maxShortest : ℕ
+maxShortest = maxBody
+
+abbrev pub farthest : ℕ → ℕ
+farthest n = n + maxBody
+
 abbrev pub maxSupplied : ℕ
 maxSupplied = 1000000000
 
@@ -30,7 +40,7 @@ treeOf t s = ofTables t (s .count) (s .shortest)
 
 -- The node count is 1 to 16,385.
 abbrev pub countOk : Scan → Bool
-countOk s = leb 1 (s .count) && leb (s .count) (1 + maxBodies)
+countOk s = leb 1 (s .count) && leb (s .count) maxNodes
 
 -- N is within its limit.
 abbrev pub imageOk : Scan → Bool
@@ -38,7 +48,7 @@ imageOk s = leb (s .image) maxImage
 
 -- S is 1 to 1,024.
 abbrev pub shortestOk : Scan → Bool
-shortestOk s = leb 1 (s .shortest) && leb (s .shortest) maxBody
+shortestOk s = leb 1 (s .shortest) && leb (s .shortest) maxShortest
 
 -- The node is below the count and d deep.
 abbrev pub nodeOk : Tables → Scan → Bool
@@ -46,7 +56,7 @@ nodeOk t s = ltb (s .config .node) (s .count) && eqb (depth t (s .config .node))
 
 -- d ≤ b ≤ N + 1,024.
 abbrev pub boundaryOk : Scan → Bool
-boundaryOk s = leb (s .config .depth) (s .config .boundary) && leb (s .config .boundary) (s .image + maxBody)
+boundaryOk s = leb (s .config .depth) (s .config .boundary) && leb (s .config .boundary) (farthest (s .image))
 
 -- At most 1,000,000,000 bytes were supplied.
 abbrev pub suppliedOk : Scan → Bool

@@ -8,6 +8,10 @@ use Rattle.book.specs.Book.{maxTokens, maxBody}
 use Rattle.trie.specs.Tables.{Tables, shortestTable}
 use Rattle.trie.specs.Walks.{depth}
 
+-- how deep a node may lie
+abbrev pub maxDepth : ℕ
+maxDepth = maxBody
+
 -- A link from node v to `at` is 0, or greater than v, below the count, and has the parent p.
 abbrev pub linked : Tables → ℕ → ℕ → ℕ → ℕ → Bool
 linked t count v at p = eqb at 0 || (ltb v at && ltb at count && eqb (getD (t .parent) at 0) p)
@@ -23,7 +27,7 @@ rootSound t =
 
 -- Another node has a smaller parent, lies at most 1,024 deep, and its token number is at most 256.
 abbrev pub nodeSound : Tables → ℕ → Bool
-nodeSound t v = ltb (getD (t .parent) v 0) v && leb (depth t v) maxBody && leb (getD (t .token) v 0) maxTokens
+nodeSound t v = ltb (getD (t .parent) v 0) v && leb (depth t v) maxDepth && leb (getD (t .token) v 0) maxTokens
 
 -- Node v does not break the tables.
 abbrev pub sound : Tables → ℕ → ℕ → Bool

@@ -1,16 +1,126 @@
--- Samples of built tables, as one table: three tokens that share endings, so that a chain of children has two nodes.
+-- Samples: the tables of four tokens, building into longer and into too short tables, and damaged tables with the first node that
+-- breaks them.
 use Prim.Native.Nat.{ℕ}
 use mathlib.Core.Path.{_≡_, refl}
-use mathlib.Core.List.{List, [], _∷_}
-use Rattle.trie.specs.Tables.{Tables, built}
+use mathlib.Core.Bool.{Bool, true, false, _&&_}
+use mathlib.Core.List.{List, [], _∷_, _++_}
+use mathlib.Core.Option.{Option, some, none}
+use lib.Dec.{eqb}
+use lib.ListN.{replicate, set, take}
+use Rattle.book.specs.Book.{accepted, refused}
+use Rattle.trie.specs.Tables.{Tables, built, build}
+use Rattle.trie.specs.Broken.{broken}
 
 -- "ab", "b", "cb", "ba": the nodes are "", "b", "ab", "cb", "a", "ba"
-sample : built ((97 ∷ 98 ∷ []) ∷ (98 ∷ []) ∷ (99 ∷ 98 ∷ []) ∷ (98 ∷ 97 ∷ []) ∷ []) ≡ record {
+abbrev four : Tables
+four = record {
   parent = 0 ∷ 0 ∷ 1 ∷ 1 ∷ 0 ∷ 4 ∷ [];
   label = 0 ∷ 98 ∷ 97 ∷ 99 ∷ 97 ∷ 98 ∷ [];
   token = 0 ∷ 2 ∷ 1 ∷ 3 ∷ 0 ∷ 4 ∷ [];
   first = 1 ∷ 2 ∷ 0 ∷ 0 ∷ 5 ∷ 0 ∷ [];
   next = 0 ∷ 4 ∷ 3 ∷ 0 ∷ 0 ∷ 0 ∷ [];
 }
+
+four-built : built ((97 ∷ 98 ∷ []) ∷ (98 ∷ []) ∷ (99 ∷ 98 ∷ []) ∷ (98 ∷ 97 ∷ []) ∷ []) ≡ four
 unfolding built
-sample = refl
+four-built = refl
+
+-- The book of "ba" and "a" asks for four entries and makes three nodes: what follows the last one stays.
+abbrev book : List ℕ
+book = 2 ∷ 98 ∷ 97 ∷ 1 ∷ 97 ∷ 0 ∷ []
+
+abbrev nines : ℕ → Tables
+nines n = record { parent = replicate n 9; label = replicate n 9; token = replicate n 9; first = replicate n 9; next = replicate 4 9 }
+
+building-fits : build book (nines 4) ≡ record {
+  answer = accepted (record { nodes = 3; shortest = 1; longest = 2 });
+  tables = record {
+    parent = 0 ∷ 0 ∷ 1 ∷ 9 ∷ [];
+    label = 0 ∷ 97 ∷ 98 ∷ 9 ∷ [];
+    token = 0 ∷ 2 ∷ 1 ∷ 9 ∷ [];
+    first = 1 ∷ 2 ∷ 0 ∷ 9 ∷ [];
+    next = 0 ∷ 0 ∷ 0 ∷ 9 ∷ [];
+  };
+}
+unfolding built
+building-fits = refl
+
+building-short : build book (nines 3) ≡ record { answer = refused 7 4; tables = nines 3 }
+building-short = refl
+
+-- Five lists, the number of nodes, and refusal 9's value.
+record Damaged : Type 0 where
+  tables : Tables
+  count : ℕ
+  breaks : Option ℕ
+
+-- the four tokens' tables with f done to one list, numbered from 0
+changed : ℕ → (List ℕ → List ℕ) → Tables
+changed k f =
+    let at : ℕ → List ℕ → List ℕ = λ i l. elim (eqb i k) [ true ↦ f l | false ↦ l ] in
+    record {
+      parent = at 0 (four .parent);
+      label = at 1 (four .label);
+      token = at 2 (four .token);
+      first = at 3 (four .first);
+      next = at 4 (four .next);
+    }
+
+put : ℕ → ℕ → List ℕ → List ℕ
+put v x l = set l v x
+
+row : Tables → ℕ → Option ℕ → Damaged
+row t count v = record { tables = t; count = count; breaks = v }
+
+-- a node that no chain leads to
+strayed : ℕ → Tables
+strayed p = record {
+  parent = four .parent ++ (p ∷ []);
+  label = four .label ++ (0 ∷ []);
+  token = four .token ++ (0 ∷ []);
+  first = four .first ++ (0 ∷ []);
+  next = four .next ++ (0 ∷ []);
+}
+
+samples : List Damaged
+unfolding row changed put strayed
+samples =
+    row four 6 none
+    ∷ row four 0 none
+    ∷ row four 7 (some 6)
+    ∷ row four 5 (some 4)  -- its first child is beyond the count
+    ∷ row (changed 0 (take 5)) 6 (some 5)
+    ∷ row (changed 1 (take 4)) 6 (some 4)
+    ∷ row (changed 2 (take 3)) 6 (some 3)
+    ∷ row (changed 3 (take 2)) 6 (some 2)
+    ∷ row (changed 4 (take 0)) 6 (some 0)
+    ∷ row (changed 0 (put 0 1)) 6 (some 0)  -- the root's entries
+    ∷ row (changed 1 (put 0 1)) 6 (some 0)
+    ∷ row (changed 2 (put 0 1)) 6 (some 0)
+    ∷ row (changed 4 (put 0 1)) 6 (some 0)
+    ∷ row (changed 2 (put 1 256)) 6 none  -- token numbers
+    ∷ row (changed 2 (put 1 257)) 6 (some 1)
+    ∷ row (strayed 5) 7 none  -- parents
+    ∷ row (strayed 6) 7 (some 6)
+    ∷ row (changed 3 (put 2 2)) 6 (some 2)  -- first children: not greater, with another parent, past the count
+    ∷ row (changed 3 (put 2 3)) 6 (some 2)
+    ∷ row (changed 3 (put 5 6)) 6 (some 5)
+    ∷ row (changed 4 (put 3 2)) 6 (some 3)  -- next siblings, alike
+    ∷ row (changed 4 (put 2 4)) 6 (some 2)
+    ∷ row (changed 4 (put 5 6)) 6 (some 5)
+    ∷ []
+
+sameNode : Option ℕ → Option ℕ → Bool
+sameNode none none = true
+sameNode none (some w) = false
+sameNode (some v) none = false
+sameNode (some v) (some w) = eqb v w
+
+allRight : List Damaged → Bool
+unfolding sameNode
+allRight [] = true
+allRight (d ∷ ds) = sameNode (broken (d .tables) (d .count)) (d .breaks) && allRight ds
+
+samples-right : allRight samples ≡ true
+unfolding samples row changed put strayed allRight sameNode
+samples-right = refl

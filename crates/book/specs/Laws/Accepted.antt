@@ -20,14 +20,14 @@ use Rattle.book.specs.Book.{Reading, accepted, refused, maxTokens, maxBo
 
 -- What holds of the tokens read so far.
 pub record Fit (tokens : List (List ℕ)) : Type 0 where
-  pub each : (i : ℕ) → i < length tokens → (1 ≤ length (getD tokens i [])) × (length (getD tokens i []) ≤ 1024)
+  pub each : (i : ℕ) → i < length tokens → (1 ≤ length (getD tokens i [])) × (length (getD tokens i []) ≤ maxBody)
   pub count : length tokens ≤ maxTokens
   pub bodies : total tokens ≤ maxBodies
   pub distinct : (i j : ℕ) → i < length tokens → j < length tokens → getD tokens i [] ≡ getD tokens j [] → i ≡ j
 
-bodyLength-range : (kind : ℕ) → 1 ≤ kind → kind ≤ 68 → (1 ≤ bodyLength kind) × (bodyLength kind ≤ 1024)
+bodyLength-range : (kind : ℕ) → 1 ≤ kind → kind ≤ 68 → (1 ≤ bodyLength kind) × (bodyLength kind ≤ maxBody)
 bodyLength-range kind h k =
-    decide (λ n. (1 ≤ n) × (n ≤ 1024)) (leb kind 64) _ _ (λ t. omega (arith, leb-true kind 64 t))
+    decide (λ n. (1 ≤ n) × (n ≤ maxBody)) (leb kind 64) _ _ (λ t. omega (arith, leb-true kind 64 t))
     (λ f. omega (
       arith,
       leb-false kind 64 f,
@@ -47,10 +47,10 @@ total-snoc : (l : List (List ℕ)) (a : List ℕ) → total (l ++ (a ∷ [])) �
 total-snoc [] a = omega arith
 total-snoc (x ∷ l) a = omega (arith, total-snoc l a)
 
-fit-snoc : (tokens : List (List ℕ)) (body : List ℕ) → Fit tokens → (1 ≤ length body) × (length body ≤ 1024) → length tokens < maxTokens
+fit-snoc : (tokens : List (List ℕ)) (body : List ℕ) → Fit tokens → (1 ≤ length body) × (length body ≤ maxBody) → length tokens < maxTokens
     → total tokens + length body ≤ maxBodies → any (same body) tokens ≡ false → Fit (tokens ++ (body ∷ []))
 fit-snoc tokens body f b n m new = record {
-  each = each-snoc (λ i t. (1 ≤ length t) × (length t ≤ 1024)) tokens body (f .each) b;
+  each = each-snoc (λ i t. (1 ≤ length t) × (length t ≤ maxBody)) tokens body (f .each) b;
   count = rw length-append (omega arith);
   bodies = rw total-snoc (omega arith);
   distinct = λ i j i< j<.
@@ -118,5 +118,5 @@ module _ (book : List ℕ) (tokens : List (List ℕ)) (read : readBook book ≡ 
     distinct = accepted-fit .distinct;
   }
 
-  pub accepted-longest : (1 ≤ longestOf tokens) × (longestOf tokens ≤ 1024)
+  pub accepted-longest : (1 ≤ longestOf tokens) × (longestOf tokens ≤ maxBody)
   accepted-longest = let r = longest-is tokens accepted-some in omega (arith, accepted-fit .each (r .0) (r .1))

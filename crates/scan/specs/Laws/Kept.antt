@@ -26,10 +26,10 @@ NextFor t s c x = WithinNext t (s .count) (s .image) (s .shortest) c x
 
 -- Steps enough: one at least, and more than are left before the boundary has passed the image.
 abbrev pub Ample : Scan → Config ℕ → ℕ → Type 0
-Ample s c f = (1 ≤ f) × Enough (s .image) 1024 c f
+Ample s c f = (1 ≤ f) × Enough (s .image) maxBody c f
 
 pub ample : (s : Scan) (c : Config ℕ) → Ample s c (enough s)
-ample s c = (omega arith, enough-steps (s .image) 1024 (omega arith) c)
+ample s c = (omega arith, enough-steps (s .image) maxBody (omega arith) c)
 
 module _ (t : Tables) (s : Scan) (r : ReadyFor t s) where
   -- With steps enough, how many there are does not matter.
@@ -55,7 +55,7 @@ module _ (t : Tables) (s : Scan) (r : ReadyFor t s) where
       next-same f g (λ c h. settle-enough c h f g) c k l (next (treeOf t s) (s .image) c) (next-within r c h)
 
   -- Going on stays in range.
-  module _ (few : s .supplied ≤ 1000000000) where
+  module _ (few : s .supplied ≤ maxSupplied) where
     hit-kept : (fuel : ℕ) → ((c : Config ℕ) → WithinFor t s c → inRange t (settle t s fuel c .state) ≡ true)
         → (w : Step ℕ) → WithinFor t s (w .config) → (x : Hit) → inRange t (onHit t s fuel w x .state) ≡ true
     hit-kept fuel ih w h noHit = ih (w .config) h
@@ -121,7 +121,7 @@ pub supply-kept : (t : Tables) (s : Scan) (x : ℕ) → judged t s true ≡ none
 supply-kept t s x e =
     let r = admitted-ready t s true e in
     let w = take (treeOf t s) (s .config) x in
-    let few : counted s .supplied ≤ 1000000000 = omega arith in
+    let few : counted s .supplied ≤ maxSupplied = omega arith in
     let kept = settle-kept t (counted s) r few (in-range t (counted s) r few (admitted-within t s true e) refl) (enough s) in
     ap (λ j. inRange t (onJudged s (onHit t (counted s) (enough s) w (hitIn (w .events))) j .state)) e
     ∙ hit-kept t (counted s) r few (enough s) kept w (supplied-within t s x e) (hitIn (w .events))

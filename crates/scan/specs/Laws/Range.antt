@@ -24,7 +24,7 @@ use Rattle.scan.specs.Laws.Within.{Ready, Within, four-few, in-range}
 abbrev pub stateAt : ℕ → ℕ → ℕ → Config ℕ → Bool → ℕ → Scan
 stateAt n S count c due k = record { image = n; shortest = S; count = count; config = c; due = due; supplied = k }
 
-limit-cap : (n D : ℕ) → 1 ≤ D → D ≤ 1024 → n ≤ 16777216 → limit n D < 1000000000
+limit-cap : (n D : ℕ) → 1 ≤ D → D ≤ maxBody → n ≤ maxImage → limit n D < maxSupplied
 limit-cap n D h k i =
     let few : digits4 D ≤ 6 = omega (arith, four-few (digits4 D - 1) (omega (arith, reached4 D h))) in
     omega (arith, mul-le-mul-left (4 * n + D) few)
@@ -38,11 +38,11 @@ module _ {tokens : List (List ℕ)} {S D : ℕ} {t : Tables} {count n : ℕ} (gi
   pub sat-below : (c : Config ℕ) (k : ℕ) → Sat given c k → k ≤ limit n D
   sat-below c k s = omega (arith, s .fine .below, limit-mono (min (c .boundary) n) n D (omega arith))
 
-  pub sat-cap : (c : Config ℕ) (k : ℕ) → Sat given c k → k < 1000000000
+  pub sat-cap : (c : Config ℕ) (k : ℕ) → Sat given c k → k < maxSupplied
   sat-cap c k s = omega (arith, sat-below c k s, limit-cap n D (given .long) (given .short) (given .image))
 
   -- Spans do not look at nodes.
-  own-spans : (b lo : ℕ) (ms : List (Stretch ℕ)) → Spans D b lo (stretchesOf (ending t) ms) → Spans 1024 b lo ms
+  own-spans : (b lo : ℕ) (ms : List (Stretch ℕ)) → Spans D b lo (stretchesOf (ending t) ms) → Spans maxBody b lo ms
   own-spans b lo [] p = tt
   own-spans b lo (m ∷ ms) p = (p .0, p .1, omega (arith, p .2, given .short), p .3, own-spans b (m .right) ms (p .4))
 

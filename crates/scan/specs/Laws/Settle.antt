@@ -22,7 +22,7 @@ use Rattle.scan.specs.Laws.Range.{stateAt, sat-cap, judged-turn}
 abbrev pub Enough : ℕ → ℕ → Config ℕ → ℕ → Type 0
 Enough n D c fuel = c .boundary ≤ n → stepsLeft n D (c .boundary) (c .depth) < fuel
 
-pub enough-steps : (n D : ℕ) → D ≤ 1024 → (c : Config ℕ) → Enough n D c ((n + 2) * 1026)
+pub enough-steps : (n D : ℕ) → D ≤ maxBody → (c : Config ℕ) → Enough n D c ((n + 2) * (maxBody + 2))
 enough-steps n D h c i = omega (arith, mul-le-mul {n₁ = suc n - c .boundary} {m₁ = suc D} {n₂ = suc n} {m₂ = 1025} (omega arith) (omega arith))
 
 -- Going on, by the hit of a step and by what comes next.
@@ -166,13 +166,13 @@ module _ {tokens : List (List ℕ)} {S D : ℕ} {t : Tables} {count n : ℕ} (gi
 
     module _ (todo : List Answer) (h : Todo k true c todo) where
       supply-is : (x : ℕ) → let w = take (ofTables t count S) c x in
-          supply t (stateAt n S count c true k) x ≡ onHit t (stateAt n S count c false (k + 1)) ((n + 2) * 1026) w (hitIn (w .events))
+          supply t (stateAt n S count c true k) x ≡ onHit t (stateAt n S count c false (k + 1)) ((n + 2) * (maxBody + 2)) w (hitIn (w .events))
       supply-is x =
           let st = stateAt n S count c true k in
           let w = take (ofTables t count S) c x in
           let is : supply t st x ≡ onHit t (counted st) (enough st) w (hitIn (w .events)) =
           ap (onJudged _ _) (judged-turn given c true k s (ap wantsByte (h .2)) true) in
-          let m : min 1000000000 (k + 1) ≡ k + 1 = omega (arith, sat-cap given c k s) in
+          let m : min maxSupplied (k + 1) ≡ k + 1 = omega (arith, sat-cap given c k s) in
           is ∙ ap (λ m. onHit t (stateAt n S count c false m) (enough st) w (hitIn (w .events))) m
 
       pub supply-plain : (x : ℕ) → isRefused (supply t (stateAt n S count c true k) x .answer) ≡ false
@@ -180,14 +180,14 @@ module _ {tokens : List (List ℕ)} {S D : ℕ} {t : Tables} {count n : ℕ} (gi
           let st = stateAt n S count c false (k + 1) in
           let w = take (ofTables t count S) c x in
           ap (λ r. isRefused (r .answer)) (supply-is x)
-          ∙ hit-plain t st ((n + 2) * 1026) (settle-plain t st ((n + 2) * 1026)) w (hitIn (w .events))
+          ∙ hit-plain t st ((n + 2) * (maxBody + 2)) (settle-plain t st ((n + 2) * (maxBody + 2))) w (hitIn (w .events))
 
       pub supply-settles : Settled (k + 1) todo (supply t (stateAt n S count c true k) (ask k (h .0)))
       supply-settles =
           let x = ask k (h .0) in
           let w = fed k (h .0) c in
           let z : SatStep given c (k + 1) w = subst (SatNext given c k) (h .2) (next-sat given c k s) x in
-          let r = onHit t (stateAt n S count c false (k + 1)) ((n + 2) * 1026) w (hitIn (w .events)) in
+          let r = onHit t (stateAt n S count c false (k + 1)) ((n + 2) * (maxBody + 2)) w (hitIn (w .events)) in
           subst (Settled (k + 1) todo) (sym (supply-is x)) (subst (λ todo. Settled (k + 1) todo r) (sym (h .4))
-          (step-settles c false (k + 1) ((n + 2) * 1026) (h .1) c w z (settle-settles c false (k + 1) ((n + 2) * 1026)) (omega arith)
+          (step-settles c false (k + 1) ((n + 2) * (maxBody + 2)) (h .1) c w z (settle-settles c false (k + 1) ((n + 2) * (maxBody + 2))) (omega arith)
           (enough-steps n D (given .short) (w .config)) (h .3)))

@@ -19,7 +19,7 @@ use Rattle.scan.specs.Laws.Within.{Ready, Fits, Within}
 pub record WithinStep (t : Tables) (count n : ℕ) (c : Config ℕ) (w : Step ℕ) : Type 0 where
   pub within : Within t count n (w .config)
   pub early : c .boundary ≤ n
-  pub less : stepsLeft n 1024 (w .config .boundary) (w .config .depth) < stepsLeft n 1024 (c .boundary) (c .depth)
+  pub less : stepsLeft n maxBody (w .config .boundary) (w .config .depth) < stepsLeft n maxBody (c .boundary) (c .depth)
 
 abbrev pub WithinNext : Tables → ℕ → ℕ → ℕ → Config ℕ → Next ℕ → Type 0
 WithinNext t count n S c finished = Unit {0}
@@ -41,7 +41,7 @@ module _ {t : Tables} {count n S : ℕ} (ready : Ready t count n S) (c : Config 
       let tree = ofTables t count S in
       let b = c .boundary + tree .shift (c .node) o in
       let moves : c .boundary < b = omega (arith, shift-ge (words t count) S (ending t (c .node)) o) in
-      let laid = ended-laid tree (depth t) 1024 c (w .held) in
+      let laid = ended-laid tree (depth t) maxBody c (w .held) in
       record {
         within = record {
           node = ready .tree .falling .size;
@@ -49,14 +49,14 @@ module _ {t : Tables} {count n S : ℕ} (ready : Ready t count n S) (c : Config 
             sized = refl;
             deep = omega arith;
             inside = omega arith;
-            spans = kept-spans 1024 (c .boundary) b 0 (ended tree c) moves laid;
+            spans = kept-spans maxBody (c .boundary) b 0 (ended tree c) moves laid;
           };
           near = omega (arith, shift-upto (words t count) S (ready .positive) (ending t (c .node)) o, ready .first);
           fits = all-filter (Fits t count) (kept b) (ended tree c) ended-fits;
-          upto = kept-upto 1024 (c .boundary) n 0 (kept b) (ended tree c) i laid;
+          upto = kept-upto maxBody (c .boundary) n 0 (kept b) (ended tree c) i laid;
         };
         early = i;
-        less = less-end n 1024 (c .boundary) b (c .depth) i moves (w .held .deep);
+        less = less-end n maxBody (c .boundary) b (c .depth) i moves (w .held .deep);
       }
 
   taken-within : c .boundary ≤ n → c .depth < c .boundary → (x : ℕ) (o : Option ℕ) → childBy t count (c .node) x ≡ o
@@ -65,7 +65,7 @@ module _ {t : Tables} {count n S : ℕ} (ready : Ready t count n S) (c : Config 
   taken-within i j x (some v) e =
       let below = ready .tree .child (c .node) x v (w .node) e .0 in
       let sized : depth t v ≡ c .depth + 1 = omega (arith, w .held .sized, ready .tree .grows (c .node) x v (w .node) e) in
-      let deep : c .depth + 1 ≤ 1024 = omega (arith, ready .tree .deep v below) in
+      let deep : c .depth + 1 ≤ maxBody = omega (arith, ready .tree .deep v below) in
       record {
         within = record {
           node = below;
@@ -75,7 +75,7 @@ module _ {t : Tables} {count n S : ℕ} (ready : Ready t count n S) (c : Config 
           upto = w .upto;
         };
         early = i;
-        less = less-deeper n 1024 (c .boundary) (c .depth) i deep;
+        less = less-deeper n maxBody (c .boundary) (c .depth) i deep;
       }
 
   look-within : c .boundary ≤ n → c .depth < c .boundary → (o : Option ℕ) → WithinNext t count n S c (look (ofTables t count S) c o)

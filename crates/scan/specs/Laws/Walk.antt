@@ -53,11 +53,11 @@ tables-alike tokens S D setting t count rep = record {
 pub record Given (tokens : List (List ℕ)) (S D : ℕ) (t : Tables) (count n : ℕ) : Type 0 where
   pub setting : Setting tokens S D
   pub long : 1 ≤ D
-  pub short : D ≤ 1024
-  pub first : S ≤ 1024
+  pub short : D ≤ maxBody
+  pub first : S ≤ maxBody
   pub represents : Represents t count tokens
-  pub nodes : count ≤ 16385
-  pub image : n ≤ 16777216
+  pub nodes : count ≤ 1 + maxBodies
+  pub image : n ≤ maxImage
 
 module _ {tokens : List (List ℕ)} {S D : ℕ} {t : Tables} {count n : ℕ} (given : Given tokens S D t count n) where
   pub alike : Alike (ofTables t count S) (ofTokens tokens S) (ending t) (λ v. v < count) length
@@ -70,7 +70,7 @@ module _ {tokens : List (List ℕ)} {S D : ℕ} {t : Tables} {count n : ℕ} (gi
   pub record Sat (c : Config ℕ) (k : ℕ) : Type 0 where
     pub apt : Apt alike c
     pub fine : Fine length D S n (configOf (ending t) c) k
-    pub near : c .boundary ≤ n + 1024
+    pub near : c .boundary ≤ n + maxBody
 
   -- A step from c that ends after k bytes.
   pub record SatStep (c : Config ℕ) (k : ℕ) (w : Step ℕ) : Type 0 where

@@ -14,19 +14,20 @@ use Rattle.rules.specs.Laws.Tests.{passed}
 use Rattle.rules.specs.Laws.All.{All}
 use Rattle.rules.specs.Laws.Limit.{Held}
 use Rattle.rules.specs.Laws.Limit.Span.{Spans, Upto, short}
+use Rattle.book.specs.Book.{maxBody, maxImage}
 use Rattle.trie.specs.Tables.{Tables}
 use Rattle.trie.specs.Walks.{depth}
 use Rattle.trie.specs.Broken.{broken}
 use Rattle.trie.specs.Laws.Unbroken.{Unbroken, unbroken}
-use Rattle.scan.specs.State.{Scan, countOk, imageOk, shortestOk, nodeOk, boundaryOk, suppliedOk, stretchOk, rising, stretchesOk, dueOk, inRange}
+use Rattle.scan.specs.State.{Scan, maxNodes, maxShortest, farthest, maxSupplied, maxStretches, countOk, imageOk, shortestOk, nodeOk, boundaryOk, suppliedOk, stretchOk, rising, stretchesOk, dueOk, inRange}
 
 -- What no step changes: tables that are a tree, and the numbers that go with them.
 pub record Ready (t : Tables) (count n S : ℕ) : Type 0 where
   pub tree : Unbroken t count
-  pub nodes : count ≤ 16385
-  pub image : n ≤ 16777216
+  pub nodes : count ≤ maxNodes
+  pub image : n ≤ maxImage
   pub positive : 1 ≤ S
-  pub first : S ≤ 1024
+  pub first : S ≤ maxShortest
 
 -- A stretch is as long as its node is deep.
 abbrev pub Fits : Tables → ℕ → Stretch ℕ → Type 0
@@ -35,20 +36,20 @@ Fits t count m = (m .node < count) × (depth t (m .node) ≡ m .right - m .left)
 -- A configuration in range, for an image of n bytes.
 pub record Within (t : Tables) (count n : ℕ) (c : Config ℕ) : Type 0 where
   pub node : c .node < count
-  pub held : Held (depth t) 1024 c
-  pub near : c .boundary ≤ n + 1024
+  pub held : Held (depth t) maxBody c
+  pub near : c .boundary ≤ farthest n
   pub fits : All (Fits t count) (c .stretches)
   pub upto : Upto n (c .stretches)
 
 -- Powers of 4 up to 1,024.
-pub four-few : (k : ℕ) → 4 ^ k ≤ 1024 → k ≤ 5
+pub four-few : (k : ℕ) → 4 ^ k ≤ maxBody → k ≤ maxStretches
 four-few k h =
     let l : k < 6 = lt-of-not-le (λ i. omega (arith, pow-le-pow-right {n = 4} (omega arith) {i = 6} {j = k} i)) in
     omega arith
 
 module _ (t : Tables) (s : Scan) where
   rising-true : (lo : ℕ) (ms : List (Stretch ℕ)) → All (Fits t (s .count)) ms
-      → Spans 1024 (s .config .boundary) lo ms → Upto (s .image) ms → rising t s lo ms ≡ true
+      → Spans maxBody (s .config .boundary) lo ms → Upto (s .image) ms → rising t s lo ms ≡ true
   rising-true lo [] a p u = refl
   rising-true lo (m ∷ ms) a p u =
       let b = s .config .boundary in
@@ -64,23 +65,23 @@ module _ (t : Tables) (s : Scan) where
       )
 
   -- The tests pass.
-  pub in-range : Ready t (s .count) (s .image) (s .shortest) → s .supplied ≤ 1000000000
+  pub in-range : Ready t (s .count) (s .image) (s .shortest) → s .supplied ≤ maxSupplied
       → Within t (s .count) (s .image) (s .config) → dueOk t s ≡ true → inRange t s ≡ true
   in-range r k w due =
       let c = s .config in
       cc (
         le-leb 1 (s .count) (r .tree .falling .size),
-        le-leb (s .count) 16385 (r .nodes),
-        le-leb (s .image) 16777216 (r .image),
+        le-leb (s .count) maxNodes (r .nodes),
+        le-leb (s .image) maxImage (r .image),
         le-leb 1 (s .shortest) (r .positive),
-        le-leb (s .shortest) 1024 (r .first),
+        le-leb (s .shortest) maxShortest (r .first),
         lt-ltb (c .node) (s .count) (w .node),
         eq-eqb (depth t (c .node)) (c .depth) (w .held .sized),
         le-leb (c .depth) (c .boundary) (w .held .inside),
-        le-leb (c .boundary) (s .image + 1024) (w .near),
-        le-leb (s .supplied) 1000000000 k,
-        le-leb (length (c .stretches)) 5
-            (four-few (length (c .stretches)) (short 1024 (c .boundary) 0 (c .stretches) (omega arith) (w .held .spans))),
+        le-leb (c .boundary) (farthest (s .image)) (w .near),
+        le-leb (s .supplied) maxSupplied k,
+        le-leb (length (c .stretches)) maxStretches
+            (four-few (length (c .stretches)) (short maxBody (c .boundary) 0 (c .stretches) (omega arith) (w .held .spans))),
         rising-true 0 (c .stretches) (w .fits) (w .held .spans) (w .upto),
         due,
       )
@@ -95,7 +96,7 @@ module _ (t : Tables) (s : Scan) where
       ∷ ltb (m .node) (s .count) ∷ eqb (depth t (m .node)) (m .right - m .left) ∷ kept (s .config .boundary) m ∷ []
 
   rising-out : Unbroken t (s .count) → (lo : ℕ) (ms : List (Stretch ℕ)) → rising t s lo ms ≡ true
-      → All (Fits t (s .count)) ms × Spans 1024 (s .config .boundary) lo ms × Upto (s .image) ms
+      → All (Fits t (s .count)) ms × Spans maxBody (s .config .boundary) lo ms × Upto (s .image) ms
   rising-out u lo [] h = (tt, tt, tt)
   rising-out u lo (m ∷ ms) h =
       let b = s .config .boundary in
@@ -121,18 +122,18 @@ module _ (t : Tables) (s : Scan) where
     pub ready : broken t (s .count) ≡ none → Ready t (s .count) (s .image) (s .shortest)
     ready e =
         let p = passed tests h in
-        let count = passed (leb 1 (s .count) ∷ leb (s .count) 16385 ∷ []) (p 0) in
-        let shortest = passed (leb 1 (s .shortest) ∷ leb (s .shortest) 1024 ∷ []) (p 2) in
+        let count = passed (leb 1 (s .count) ∷ leb (s .count) maxNodes ∷ []) (p 0) in
+        let shortest = passed (leb 1 (s .shortest) ∷ leb (s .shortest) maxShortest ∷ []) (p 2) in
         record {
           tree = unbroken t (s .count) (leb-true 1 (s .count) (count 0)) e;
-          nodes = leb-true (s .count) 16385 (count 1);
-          image = leb-true (s .image) 16777216 (p 1);
+          nodes = leb-true (s .count) maxNodes (count 1);
+          image = leb-true (s .image) maxImage (p 1);
           positive = leb-true 1 (s .shortest) (shortest 0);
-          first = leb-true (s .shortest) 1024 (shortest 1);
+          first = leb-true (s .shortest) maxShortest (shortest 1);
         }
 
-    pub counts : s .supplied ≤ 1000000000
-    counts = leb-true (s .supplied) 1000000000 (passed tests h 5)
+    pub counts : s .supplied ≤ maxSupplied
+    counts = leb-true (s .supplied) maxSupplied (passed tests h 5)
 
     pub dues : dueOk t s ≡ true
     dues = passed tests h 7
@@ -142,8 +143,8 @@ module _ (t : Tables) (s : Scan) where
         let c = s .config in
         let p = passed tests h in
         let node = passed (ltb (c .node) (s .count) ∷ eqb (depth t (c .node)) (c .depth) ∷ []) (p 3) in
-        let bounds = passed (leb (c .depth) (c .boundary) ∷ leb (c .boundary) (s .image + 1024) ∷ []) (p 4) in
-        let stretches = passed (leb (length (c .stretches)) 5 ∷ rising t s 0 (c .stretches) ∷ []) (p 6) in
+        let bounds = passed (leb (c .depth) (c .boundary) ∷ leb (c .boundary) (farthest (s .image)) ∷ []) (p 4) in
+        let stretches = passed (leb (length (c .stretches)) maxStretches ∷ rising t s 0 (c .stretches) ∷ []) (p 6) in
         let below = ltb-true (c .node) (s .count) (node 0) in
         let sized = eqb-true (depth t (c .node)) (c .depth) (node 1) in
         let r = rising-out u 0 (c .stretches) (stretches 1) in
@@ -155,7 +156,7 @@ module _ (t : Tables) (s : Scan) where
             inside = leb-true (c .depth) (c .boundary) (bounds 0);
             spans = r .1;
           };
-          near = leb-true (c .boundary) (s .image + 1024) (bounds 1);
+          near = leb-true (c .boundary) (farthest (s .image)) (bounds 1);
           fits = r .0;
           upto = r .2;
         }

@@ -46,7 +46,7 @@ module _ (tokens : List (List ℕ)) (t : Tables) (n : ℕ) (fs : Facts tokens (l
         (λ e. s .sibs v (omega arith) h .node a)),
   )
 
-  shallow : (v : ℕ) → 0 < v → v < n → depth t v ≤ 1024
+  shallow : (v : ℕ) → 0 < v → v < n → depth t v ≤ maxBody
   shallow v a h =
       let q = fs .real v a h in
       omega (arith, ends-shorter (ending t v) (getD tokens (q .0) []) (q .2), fit .each (q .0) (q .1) .1)
@@ -58,8 +58,8 @@ module _ (tokens : List (List ℕ)) (t : Tables) (n : ℕ) (fs : Facts tokens (l
       (λ e. let a : 0 < v = omega (arith, eqb-false v 0 e) in
       cc (
         lt-ltb (up t v) v (s .ups v a h),
-        le-leb (depth t v) 1024 (shallow v a h),
-        le-leb (num t v) 256 (omega (arith, numbered-le tokens (length tokens) (ending t v) (num t v) (fs .numbered v h), fit .count)),
+        le-leb (depth t v) maxDepth (shallow v a h),
+        le-leb (num t v) maxTokens (omega (arith, numbered-le tokens (length tokens) (ending t v) (num t v) (fs .numbered v h), fit .count)),
         links-true v h,
       ))
 

@@ -21,7 +21,7 @@ pub record Unbroken (t : Tables) (count : ℕ) : Type 0 where
   -- upwards: parents, endings, and the nodes above
   pub falling : Falling t count
   pub step : (v : ℕ) → 0 < v → v < count → ending t v ≡ tag t v ∷ ending t (up t v)
-  pub deep : (v : ℕ) → v < count → depth t v ≤ 1024
+  pub deep : (v : ℕ) → v < count → depth t v ≤ maxBody
   pub lift : (j v : ℕ) → v < count → (lifted t j v < count) × (depth t (lifted t j v) ≡ depth t v - j)
   -- downwards: the first child, the next sibling, and what a walk along them finds
   pub heads : (v : ℕ) → v < count → 0 < head t v → (v < head t v) × (head t v < count) × (up t (head t v) ≡ v)
@@ -54,7 +54,7 @@ module _ (t : Tables) (count : ℕ) where
   rootTests = eqb (up t 0) 0 ∷ eqb (tag t 0) 0 ∷ eqb (num t 0) 0 ∷ eqb (sib t 0) 0 ∷ links t count 0 ∷ []
 
   abbrev nodeTests : ℕ → List Bool
-  nodeTests v = ltb (up t v) v ∷ leb (depth t v) 1024 ∷ leb (num t v) 256 ∷ links t count v ∷ []
+  nodeTests v = ltb (up t v) v ∷ leb (depth t v) maxDepth ∷ leb (num t v) maxTokens ∷ links t count v ∷ []
 
   abbrev linkTests : ℕ → List Bool
   linkTests v = linked t count v (head t v) v ∷ linked t count v (sib t v) (up t v) ∷ []
@@ -113,7 +113,7 @@ module _ (t : Tables) (count : ℕ) where
         each = each;
         falling = falls size each;
         step = way-step t count (falls size each);
-        deep = λ v h. split v 0 (λ z. rw z (omega arith)) (λ z. leb-true (depth t v) 1024 (node-tests size each v (omega arith) h 1));
+        deep = λ v h. split v 0 (λ z. rw z (omega arith)) (λ z. leb-true (depth t v) maxDepth (node-tests size each v (omega arith) h 1));
         lift = lift-out size each;
         heads = head-out size each;
         sibs = sib-out size each;

@@ -1,0 +1,138 @@
+-- Samples of states at the edges of their ranges, as one table: each range holds here and does not one further. And of starting, and
+-- of steps that are refused or done.
+use Prim.Native.Nat.{ℕ, zero, suc, _+_}
+use mathlib.Core.Path.{_≡_, refl}
+use mathlib.Core.Bool.{Bool, true, false, _&&_}
+use mathlib.Core.List.{List, [], _∷_, _++_}
+use mathlib.Core.Option.{some}
+use lib.ListN.{replicate}
+use Rattle.rules.specs.Rules.{Stretch}
+use Rattle.book.specs.Book.{accepted, refused as unstarted}
+use Rattle.trie.specs.Tables.{Tables}
+use Rattle.scan.specs.State.{Scan, inRange}
+use Rattle.scan.specs.Start.{started, start}
+use Rattle.scan.specs.Calls.{over, refused, agree, judged, carryOn}
+
+count : ℕ → ℕ → List ℕ
+count from zero = []
+count from (suc n) = from ∷ count (from + 1) n
+
+-- The tables of one token of twenty bytes: node v is v deep.
+chain : Tables
+unfolding count
+chain = record {
+  parent = 0 ∷ count 0 20;
+  label = 0 ∷ replicate 20 97;
+  token = replicate 20 0 ++ (1 ∷ []);
+  first = count 1 20 ++ (0 ∷ []);
+  next = replicate 21 0;
+}
+
+stretch : ℕ → ℕ → ℕ → Stretch ℕ
+stretch left right node = record { left = left; right = right; node = node }
+
+record Sample : Type 0 where
+  state : Scan
+  ranged : Bool
+
+-- N, S, the number of nodes, b, node, d, the stretches, whether a byte is due, bytes supplied; and whether it is in range
+row : ℕ → ℕ → ℕ → ℕ → ℕ → ℕ → List (Stretch ℕ) → Bool → ℕ → Bool → Sample
+row n s k b v d ss due supplied ranged = record {
+  state = record {
+    image = n;
+    shortest = s;
+    count = k;
+    config = record { boundary = b; node = v; depth = d; stretches = ss };
+    due = due;
+    supplied = supplied;
+  };
+  ranged = ranged;
+}
+
+-- two stretches that are just kept at boundary 25
+two : List (Stretch ℕ)
+unfolding stretch
+two = stretch 0 20 20 ∷ stretch 20 24 4 ∷ []
+
+samples : List Sample
+unfolding row two stretch
+samples =
+    row 30 20 21 25 0 0 two false 0 true
+    ∷ row 30 20 0 25 0 0 [] false 0 false  -- the node count
+    ∷ row 30 20 1 25 0 0 [] false 0 true
+    ∷ row 30 20 16385 25 0 0 [] false 0 true
+    ∷ row 30 20 16386 25 0 0 [] false 0 false
+    ∷ row 16777216 20 21 25 0 0 [] false 0 true  -- N
+    ∷ row 16777217 20 21 25 0 0 [] false 0 false
+    ∷ row 30 0 21 25 0 0 [] false 0 false  -- S
+    ∷ row 30 1 21 25 0 0 [] false 0 true
+    ∷ row 30 1024 21 25 0 0 [] false 0 true
+    ∷ row 30 1025 21 25 0 0 [] false 0 false
+    ∷ row 30 20 3 25 2 2 [] false 0 true  -- the node is below the count and d deep
+    ∷ row 30 20 2 25 2 2 [] false 0 false
+    ∷ row 30 20 21 25 2 1 [] false 0 false
+    ∷ row 30 20 21 25 2 3 [] false 0 false
+    ∷ row 30 20 21 2 2 2 [] false 0 true  -- d ≤ b ≤ N + 1,024
+    ∷ row 30 20 21 1 2 2 [] false 0 false
+    ∷ row 30 20 21 1054 0 0 [] false 0 true
+    ∷ row 30 20 21 1055 0 0 [] false 0 false
+    ∷ row 30 20 21 25 0 0 [] false 1000000000 true  -- bytes supplied
+    ∷ row 30 20 21 25 0 0 [] false 1000000001 false
+    ∷ row 24 20 21 25 0 0 two false 0 true  -- stretches: within the image
+    ∷ row 23 20 21 25 0 0 two false 0 false
+    ∷ row 30 20 21 25 0 0 (stretch 0 20 20 ∷ stretch 19 24 5 ∷ []) false 0 false  -- disjoint
+    ∷ row 30 20 21 25 0 0 (stretch 20 24 4 ∷ stretch 0 20 20 ∷ []) false 0 false  -- rising
+    ∷ row 30 20 21 25 0 0 (stretch 19 24 4 ∷ []) false 0 false  -- as long as their nodes are deep
+    ∷ row 30 20 21 25 0 0 (stretch 20 24 5 ∷ []) false 0 false
+    ∷ row 30 20 20 25 0 0 two false 0 false  -- nodes below the count
+    ∷ row 30 20 21 24 0 0 (stretch 20 24 4 ∷ []) false 0 false  -- r < b
+    ∷ row 30 20 21 26 0 0 (stretch 20 24 4 ∷ []) false 0 false  -- kept by rule 6
+    ∷ row 30 20 21 26 0 0 (stretch 16 24 8 ∷ []) false 0 true
+    ∷ row 30 20 21 25 0 0 two true 0 true  -- a byte is due: the rules fetch place 24,
+    ∷ row 30 20 21 25 1 1 two true 0 false  -- remember place 23,
+    ∷ row 30 20 21 31 0 0 [] true 0 false  -- are done,
+    ∷ row 30 20 21 25 20 20 [] true 0 false  -- have no child,
+    ∷ row 30 20 21 2 2 2 [] true 0 false  -- are at the image's start
+    ∷ []
+
+allRight : List Sample → Bool
+allRight [] = true
+allRight (s ∷ ss) = agree (inRange chain (s .state)) (s .ranged) && allRight ss
+
+samples-right : allRight samples ≡ true
+unfolding samples row two stretch chain count allRight
+samples-right = refl
+
+-- Starting: 8 comes above the limit.
+start-at-limit : start 16777216 20 21 ≡ accepted (started 16777216 20 21)
+start-at-limit = refl
+
+start-over-limit : start 16777217 20 21 ≡ unstarted 8 16777216
+start-over-limit = refl
+
+-- A step: 9 before 10 before 11; the root of `spoilt` has a label.
+spoilt : Tables
+unfolding chain
+spoilt = record { parent = chain .parent; label = replicate 21 97; token = chain .token; first = chain .first; next = chain .next }
+
+nine-first : judged spoilt (row 30 0 21 25 0 0 [] true 0 false .state) false ≡ some (refused 9 0)
+unfolding spoilt chain count row
+nine-first = refl
+
+ten-first : judged chain (row 30 0 21 25 0 0 [] true 0 false .state) false ≡ some (refused 10 0)
+unfolding chain count row
+ten-first = refl
+
+carry-out-of-turn : judged chain (row 30 20 21 25 0 0 [] true 0 true .state) false ≡ some (refused 11 0)
+unfolding chain count row
+carry-out-of-turn = refl
+
+supply-out-of-turn : judged chain (row 30 20 21 25 0 0 [] false 0 true .state) true ≡ some (refused 11 0)
+unfolding chain count row
+supply-out-of-turn = refl
+
+-- Carrying on when done changes nothing.
+done-stays : carryOn chain (row 30 20 21 31 0 0 [] false 7 true .state)
+    ≡ record { state = row 30 20 21 31 0 0 [] false 7 true .state; answer = over }
+unfolding chain count row
+done-stays = refl
