@@ -1,11 +1,11 @@
 -- The revocation book: its records, its limits, and refusals 1 to 6 in document 01's order.
 use Prim.Native.Nat.{ℕ, zero, suc, _+_, _-_, _*_, _^_}
-use mathlib.Core.Bool.{Bool, true, false, _||_}
+use mathlib.Core.Bool.{Bool, true, false, _&&_, _||_}
 use mathlib.Core.List.{List, [], _∷_, _++_}
 use lib.Dec.{leb, ltb, eqb}
 use lib.ListN.{length, getD, take, drop}
 use Rattle.rules.specs.Lists.{same, any}
-use Rattle.rules.specs.Tokens.{total}
+use Rattle.rules.specs.Tokens.{total, shortestOf, longestOf}
 
 -- The limits of a book: tokens, body bytes, and the length of an image that is swept with it.
 abbrev pub maxTokens : ℕ
@@ -112,3 +112,37 @@ readFrom book (suc fuel) at tokens =
 -- The whole book. A record takes a byte at least, so its length is fuel enough.
 abbrev pub readBook : List ℕ → Reading
 readBook book = readFrom book (suc (length book)) 0 []
+
+-- What a reader learns of the tokens: how many there are, all body bytes, S and D.
+pub record Totals : Type 0 where
+  pub tokens : ℕ
+  pub bodies : ℕ
+  pub shortest : ℕ
+  pub longest : ℕ
+
+abbrev pub totalsOf : List (List ℕ) → Totals
+totalsOf tokens = record {
+  tokens = length tokens;
+  bodies = total tokens;
+  shortest = shortestOf tokens;
+  longest = longestOf tokens;
+}
+
+abbrev pub summary : Reading → Verdict Totals
+summary (accepted tokens) = accepted (totalsOf tokens)
+summary (refused k v) = refused k v
+
+-- Where token number i stands in the book: the place and the length of its body; or it is not in the book, or the book is refused.
+pub data Place : Type 0 where
+  found : ℕ → ℕ → Place
+  missing : Place
+  unread : Place
+
+-- Each token before it takes its body and a kind byte, and its own kind byte comes first.
+abbrev pub placeIn : Reading → ℕ → Place
+placeIn (refused k v) i = unread
+placeIn (accepted tokens) i =
+    elim (leb 1 i && leb i (length tokens)) [
+      | true ↦ found (i + total (take (i - 1) tokens)) (length (getD tokens (i - 1) []))
+      | false ↦ missing
+    ]

@@ -3,7 +3,7 @@ use Prim.Native.Nat.{ℕ, zero, suc, _+_, _*_, min}
 use mathlib.Core.Bool.{Bool, true, false, not}
 use mathlib.Core.List.{List, [], _∷_}
 use mathlib.Core.Option.{Option, some, none}
-use Rattle.rules.specs.Rules.{Config, Event, fetched, recalled, hit, shifted, done, Step, Next, finished, wants, goes, take, next}
+use Rattle.rules.specs.Rules.{Config, Event, fetched, recalled, hit, shifted, done, finished, wants, goes, take, next}
 use Rattle.book.specs.Book.{maxBody}
 use Rattle.trie.specs.Tables.{Tables}
 use Rattle.trie.specs.Broken.{broken}

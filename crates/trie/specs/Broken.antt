@@ -8,9 +8,12 @@ use Rattle.book.specs.Book.{maxTokens, maxBody}
 use Rattle.trie.specs.Tables.{Tables, shortestTable}
 use Rattle.trie.specs.Walks.{depth}
 
--- how deep a node may lie
+-- how deep a node may lie, and how great its token number may be
 abbrev pub maxDepth : ℕ
 maxDepth = maxBody
+
+abbrev pub maxNumber : ℕ
+maxNumber = maxTokens
 
 -- A link from node v to `at` is 0, or greater than v, below the count, and has the parent p.
 abbrev pub linked : Tables → ℕ → ℕ → ℕ → ℕ → Bool
@@ -27,7 +30,7 @@ rootSound t =
 
 -- Another node has a smaller parent, lies at most 1,024 deep, and its token number is at most 256.
 abbrev pub nodeSound : Tables → ℕ → Bool
-nodeSound t v = ltb (getD (t .parent) v 0) v && leb (depth t v) maxDepth && leb (getD (t .token) v 0) maxTokens
+nodeSound t v = ltb (getD (t .parent) v 0) v && leb (depth t v) maxDepth && leb (getD (t .token) v 0) maxNumber
 
 -- Node v does not break the tables.
 abbrev pub sound : Tables → ℕ → ℕ → Bool

@@ -2,21 +2,19 @@
 use Prim.Native.Nat.{ℕ, zero, suc, _+_, _-_, _≤_, _<_}
 use native.Mathlib.Omega.{arith}
 use native.Mathlib.Nat.{pow-le-pow-right}
-use native.Mathlib.Decide.{ℕ-discrete}
-use mathlib.Core.Path.{_≡_, refl, sym, _∙_}
-use mathlib.Core.Logic.{_≢_}
-use mathlib.Core.Bool.{false, _||_}
+use mathlib.Core.Path.{_≡_, refl, sym}
+use mathlib.Core.Bool.{false}
 use mathlib.Core.List.{List, [], _∷_, _++_}
 use borrow.Author.Tests.{leb-true, leb-false, ltb-false, eqb-false}
-use lib.Dec.{leb, ltb, eqb}
-use lib.ListN.{length, getD, take, drop, length-append, length-take, length-drop}
+use lib.Dec.{leb}
+use lib.ListN.{length, getD, length-append, length-take, length-drop}
 use Rattle.rules.specs.Lists.{same, any}
 use Rattle.rules.specs.Tokens.{total, shortestOf, longestOf}
 use Rattle.rules.specs.Laws.Tests.{decide, clash, or-nl, or-nr, any-in}
 use Rattle.rules.specs.Laws.Endings.{same-refl}
 use Rattle.rules.specs.Laws.Lengths.{shortest-le, longest-ge, shortest-is, longest-is}
 use Rattle.rules.specs.Laws.Setting.{Setting}
-use Rattle.book.specs.Book.{Reading, accepted, refused, maxTokens, maxBodies, bodyLength, kindAt, sizeAt, bodyAt, kindMissing, kindUnknown, closes, bodyShort, overLimits, repeats, trailing, noToken, closed, readFrom, readBook}
+use Rattle.book.specs.Book.{Reading, accepted, refused, maxTokens, maxBodies, bodyLength, kindAt, sizeAt, bodyAt, kindMissing, kindUnknown, closes, bodyShort, overLimits, repeats, trailing, noToken, closed, readFrom, readBook, maxBody}
 
 -- What holds of the tokens read so far.
 pub record Fit (tokens : List (List ℕ)) : Type 0 where

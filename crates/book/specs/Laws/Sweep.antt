@@ -2,8 +2,8 @@
 use Prim.Native.Nat.{ℕ, _≤_}
 use native.Mathlib.Omega.{arith}
 use mathlib.Core.Path.{_≡_}
-use mathlib.Core.List.{List, []}
-use lib.ListN.{length, getD}
+use mathlib.Core.List.{List}
+use lib.ListN.{length}
 use Rattle.rules.specs.Tokens.{ofTokens, shortestOf, longestOf}
 use Rattle.rules.specs.Sweep.{limit, happens, bytesOf, places, Few}
 use Rattle.rules.specs.Laws.Limit.{stretches-few, fetches-all}

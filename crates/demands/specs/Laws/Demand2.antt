@@ -1,11 +1,10 @@
 -- Demand 2 holds.
 use Prim.Native.Nat.{ℕ, suc, _+_, _*_, _≤_}
 use native.Mathlib.Omega.{arith}
-use mathlib.Core.Path.{_≡_, refl, sym, subst, _∙_}
-use mathlib.Core.Bool.{false}
+use mathlib.Core.Path.{_≡_, refl, sym, subst}
 use mathlib.Core.List.{List}
 use lib.ListN.{length}
-use Rattle.rules.specs.Rules.{fresh, trace}
+use Rattle.rules.specs.Rules.{fresh}
 use Rattle.rules.specs.Tokens.{shortestOf, longestOf}
 use Rattle.rules.specs.Sweep.{happens, bytesOf, Occurrences}
 use Rattle.rules.specs.Laws.Limit.Ends.{steps-enough}

@@ -2,10 +2,8 @@
 use Prim.Native.Nat.{ℕ, suc, _+_, _*_, _≤_}
 use native.Mathlib.Omega.{arith}
 use mathlib.Core.Path.{_≡_, ap, _∙_}
-use mathlib.Core.Bool.{Bool, true, false}
-use mathlib.Core.List.{List, []}
+use mathlib.Core.List.{List}
 use borrow.Author.Tests.{ltb-false}
-use lib.Dec.{ltb}
 use lib.ListN.{length}
 use Rattle.rules.specs.Rules.{fresh, trace}
 use Rattle.rules.specs.Tokens.{shortestOf, longestOf}
@@ -13,7 +11,7 @@ use Rattle.rules.specs.Sweep.{happens}
 use Rattle.rules.specs.Laws.Lengths.{shortest-is}
 use Rattle.rules.specs.Laws.Tests.{decide}
 use Rattle.rules.specs.Laws.Alike.{trace-same}
-use Rattle.book.specs.Book.{Verdict, readBook, accepted, refused, maxImage}
+use Rattle.book.specs.Book.{readBook, accepted, refused, maxImage}
 use Rattle.book.specs.Laws.Accepted.{accepted-fit, accepted-some, accepted-setting, accepted-longest}
 use Rattle.trie.specs.Tables.{Tables, nodes, built, Lent}
 use Rattle.trie.specs.Walks.{ending, ofTables}

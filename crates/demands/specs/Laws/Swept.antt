@@ -12,7 +12,7 @@ use Rattle.rules.specs.Laws.Limit.Ends.{Whole}
 use Rattle.trie.specs.Tables.{Tables}
 use Rattle.trie.specs.Walks.{ofTables}
 use Rattle.scan.specs.Calls.{Answer, fetch, found, over, refused, Stepped, carryOn, supply}
-use Rattle.scan.specs.Answers.{answers, placesIn, hitsIn, first, later, isFetch}
+use Rattle.scan.specs.Answers.{answers, placesIn, hitsIn}
 use Rattle.scan.specs.Laws.Walk.{Given, Sat}
 use Rattle.scan.specs.Laws.Range.{stateAt}
 use Rattle.scan.specs.Laws.Settle.{Todo, Settled, carry-settles, supply-settles}

@@ -1,5 +1,5 @@
 -- The number of base-4 digits by powers of 4, and the limit on fetches for a longer image.
-use Prim.Native.Nat.{ℕ, zero, suc, _+_, _-_, _*_, _/_, _^_, _≤_, _<_, max}
+use Prim.Native.Nat.{ℕ, zero, suc, _-_, _*_, _/_, _^_, _≤_, _<_, max}
 use native.Mathlib.Nat.{pow-suc, pow-le-pow-right, lt-of-not-le, mul-le-mul-right}
 use native.Mathlib.Numerals.{sub-one}
 use native.Mathlib.Omega.{arith}

@@ -1,5 +1,5 @@
 -- What the tests of `Rules` and `Tokens` say when they pass, and when they fail.
-use Prim.Native.Nat.{ℕ, zero, suc, _+_, _-_, _≤_, _<_}
+use Prim.Native.Nat.{ℕ, zero, suc, _+_, _≤_, _<_}
 use native.Mathlib.Omega.{arith}
 use native.Mathlib.Decide.{ℕ-discrete}
 use mathlib.Core.Path.{_≡_, refl, ap, sym, _∙_}
@@ -7,11 +7,11 @@ use mathlib.Core.Logic.{_≢_}
 use mathlib.Core.Bool.{Bool, true, false, _&&_, _||_, not}
 use mathlib.Core.List.{List, [], _∷_}
 use mathlib.Core.Option.{none}
-use borrow.Author.Tests.{eq-eqb, eqb-true, eqb-false, ltb-true, ltb-false}
+use borrow.Author.Tests.{eqb-false, ltb-true, ltb-false}
 use lib.Dec.{eqb, ltb}
 use lib.ListN.{length, getD}
 use Rattle.rules.specs.Rules.{Tree, Config, Next, finished, goes, place, recall, endRound, look, next}
-use Rattle.rules.specs.Lists.{same, any, every, least, numberFrom}
+use Rattle.rules.specs.Lists.{any, every, least}
 
 -- A test is decided, and its answer is kept.
 pub decide {ℓ} : {X : Type ℓ} (P : X → Type 0) (t : Bool) (x y : X) → (t ≡ true → P x) → (t ≡ false → P y)

@@ -4,11 +4,12 @@ use native.Mathlib.Omega.{arith}
 use mathlib.Core.Path.{_≡_, refl, ap, subst, _∙_}
 use mathlib.Core.Bool.{Bool, true, false, _||_, not}
 use mathlib.Core.Option.{Option, some, none}
+use Rattle.book.specs.Book.{maxBody}
 use Rattle.rules.specs.Rules.{Config, Step, Next, finished, wants, goes, take, next}
 use Rattle.rules.specs.Laws.Tests.{clash}
 use Rattle.trie.specs.Tables.{Tables}
 use Rattle.trie.specs.Broken.{broken}
-use Rattle.scan.specs.State.{Scan, treeOf, wantsByte, inRange}
+use Rattle.scan.specs.State.{Scan, treeOf, wantsByte, inRange, maxSupplied}
 use Rattle.scan.specs.Calls.{Answer, refused, Hit, noHit, hitOf, hitIn, moved, counted, settle, enough, agree, judged, carryOn, supply}
 use Rattle.scan.specs.Laws.Within.{Ready, Within, in-range, ready, counts, dues, within}
 use Rattle.scan.specs.Laws.Stay.{WithinNext, next-within}

@@ -7,6 +7,7 @@ use mathlib.Core.Bool.{Bool, true, false, _||_, not}
 use mathlib.Core.List.{List, [], _∷_}
 use mathlib.Core.Option.{some, none}
 use lib.ListN.{length}
+use Rattle.book.specs.Book.{maxBody, maxImage}
 use Rattle.rules.specs.Rules.{Stretch, Config, next}
 use Rattle.rules.specs.Sweep.{digits4, limit}
 use Rattle.rules.specs.Laws.Digits.{limit-mono, reached4}
@@ -16,7 +17,7 @@ use Rattle.trie.specs.Tables.{Tables}
 use Rattle.trie.specs.Walks.{ending, ofTables}
 use Rattle.trie.specs.Laws.Unbroken.{unbroken}
 use Rattle.scan.specs.Calls.{refused, outOfTurn, judged}
-use Rattle.scan.specs.State.{Scan, wantsByte, inRange}
+use Rattle.scan.specs.State.{Scan, wantsByte, inRange, maxSupplied}
 use Rattle.scan.specs.Laws.Walk.{Given, Sat}
 use Rattle.scan.specs.Laws.Within.{Ready, Within, four-few, in-range}
 
@@ -59,7 +60,7 @@ module _ {tokens : List (List ℕ)} {S D : ℕ} {t : Tables} {count n : ℕ} (gi
       inside = s .fine .held .inside;
       spans = own-spans (c .boundary) 0 (c .stretches) (s .fine .held .spans);
     };
-    near = s .near;
+    near = omega (arith, s .near);
     fits = s .apt .stretches;
     upto = own-upto (c .stretches) (s .fine .upto);
   }
@@ -67,10 +68,10 @@ module _ {tokens : List (List ℕ)} {S D : ℕ} {t : Tables} {count n : ℕ} (gi
   sat-ready : Ready t count n S
   sat-ready = record {
     tree = unbroken t count (given .represents .some-node) (given .represents .fine);
-    nodes = given .nodes;
+    nodes = omega (arith, given .nodes);
     image = given .image;
     positive = given .setting .positive;
-    first = given .first;
+    first = omega (arith, given .first);
   }
 
   module _ (c : Config ℕ) (due : Bool) (k : ℕ) (s : Sat given c k)

@@ -7,12 +7,13 @@ use mathlib.Core.Bool.{Bool, true, false}
 use mathlib.Core.List.{List, [], _++_}
 use mathlib.Core.Option.{Option, some, none}
 use borrow.Author.Tests.{lt-ltb}
+use Rattle.book.specs.Book.{maxBody}
 use Rattle.rules.specs.Rules.{Config, Event, Step, Next, finished, wants, goes, take, next, follow, trace}
 use Rattle.rules.specs.Laws.Limit.Ends.{stepsLeft}
 use Rattle.trie.specs.Tables.{Tables}
 use Rattle.trie.specs.Walks.{ofTables}
 use Rattle.scan.specs.Calls.{Answer, fetch, found, over, refused, Stepped, Hit, noHit, hitOf, hitIn, moved, counted, settle, enough, carryOn, supply}
-use Rattle.scan.specs.State.{Scan, wantsByte}
+use Rattle.scan.specs.State.{Scan, wantsByte, maxSupplied}
 use Rattle.scan.specs.Answers.{answers, isRefused, isFetch, first, later}
 use Rattle.scan.specs.Laws.Mild.{answered}
 use Rattle.scan.specs.Laws.Walk.{Given, Sat, SatStep, SatNext, next-sat}

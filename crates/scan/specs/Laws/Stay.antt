@@ -3,6 +3,7 @@ use Prim.Native.Nat.{ℕ, _+_, _-_, _≤_, _<_}
 use native.Mathlib.Omega.{arith}
 use mathlib.Core.Path.{_≡_, refl, _∙_}
 use mathlib.Core.Option.{Option, some, none}
+use Rattle.book.specs.Book.{maxBody}
 use Rattle.rules.specs.Rules.{Config, Step, Next, finished, wants, goes, place, leftOver, cut, kept, recall, ended, endRound, taken, take, look, next}
 use Rattle.rules.specs.Laws.Tests.{next-cases}
 use Rattle.rules.specs.Laws.All.{All, all-append, all-filter}

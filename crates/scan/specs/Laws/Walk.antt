@@ -1,13 +1,12 @@
 -- What holds of a configuration that the calls come to, over tables that represent the tokens; the rules keep it.
-use Prim.Native.Nat.{ℕ, zero, suc, _+_, _-_, _≤_, _<_}
-use native.Mathlib.Nat.{le-trans}
+use Prim.Native.Nat.{ℕ, suc, _+_, _≤_, _<_}
 use native.Mathlib.Numerals.{add-one}
 use native.Mathlib.Omega.{arith}
 use mathlib.Core.Path.{_≡_, refl, subst}
-use mathlib.Core.Bool.{Bool}
 use mathlib.Core.List.{List, _++_}
 use mathlib.Core.Option.{Option, some, none}
 use lib.ListN.{length, length-drop}
+use Rattle.book.specs.Book.{maxBody, maxBodies, maxImage}
 use Rattle.rules.specs.Rules.{Config, Event, Step, Next, finished, wants, goes, fresh, take, next}
 use Rattle.rules.specs.Tokens.{grown, ofTokens}
 use Rattle.rules.specs.Laws.Setting.{Setting}

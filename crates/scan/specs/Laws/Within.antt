@@ -1,5 +1,5 @@
 -- A state in its ranges, as propositions: what the tests of refusal 10 say, over any tables that pass refusal 9.
-use Prim.Native.Nat.{ℕ, _+_, _-_, _*_, _^_, _≤_, _<_}
+use Prim.Native.Nat.{ℕ, _-_, _*_, _^_, _≤_, _<_}
 use native.Mathlib.Omega.{arith}
 use native.Mathlib.Nat.{pow-le-pow-right, lt-of-not-le}
 use mathlib.Core.Path.{_≡_, refl}

@@ -3,22 +3,20 @@
 use Prim.Native.Nat.{ℕ, _+_, _-_, _≤_, _<_}
 use native.Mathlib.Omega.{arith}
 use mathlib.Core.Path.{_≡_, refl, ap, sym, subst, _∙_}
-use mathlib.Core.Bool.{Bool, true, false, _&&_, not}
+use mathlib.Core.Bool.{Bool, true, _&&_, not}
 use mathlib.Core.List.{List, [], _∷_, _++_}
-use mathlib.Core.Option.{Option, some, none}
+use mathlib.Core.Option.{Option, none}
 use lib.Dec.{eqb, ltb}
 use lib.ListN.{length, getD, drop, length-append, List·getD-append}
 use lib.Seq.{take-length}
 use Rattle.rules.specs.Lists.{any, numberFrom}
 use Rattle.rules.specs.Tokens.{ends, fromRight, grown, shiftOf, total, longestOf}
-use Rattle.rules.specs.Laws.Tests.{clash}
 use Rattle.book.specs.Laws.Accepted.{Fit}
 use Rattle.trie.specs.Tables.{Tables, nodes, built, Lent, shortestTable}
 use Rattle.trie.specs.Laws.Growth.{insertedAll}
 use Rattle.trie.specs.Walks.{childBy, ending, depth, words, ofTables}
 use Rattle.trie.specs.Broken.{broken}
 use Rattle.trie.specs.Laws.Shape.{ending-step, ending-apart}
-use Rattle.trie.specs.Laws.Grow.{Sized}
 use Rattle.trie.specs.Laws.Build.{Facts, facts-agree, built-facts}
 use Rattle.trie.specs.Laws.Nodes.{Stand, real, deep, stands, child, leaf, bytes, lifts, word, shift-same, token}
 use Rattle.trie.specs.Laws.Sound.{fine}

@@ -2,18 +2,19 @@
 use Prim.Native.Nat.{ℕ, zero, suc, _+_, _≤_, _<_}
 use native.Mathlib.Omega.{arith}
 use mathlib.Core.Path.{_≡_, refl, ap}
-use mathlib.Core.Bool.{true, _&&_}
+use mathlib.Core.Bool.{true}
 use mathlib.Core.List.{List, []}
 use mathlib.Core.Option.{none}
 use borrow.Author.Tests.{eqb-true, eqb-false, eq-eqb, lt-ltb, le-leb, le-ltb}
 use lib.Dec.{eqb}
 use lib.ListN.{length, getD}
+use Rattle.book.specs.Book.{maxBody, maxTokens}
 use Rattle.rules.specs.Laws.Tests.{decide, or-r, split}
 use Rattle.rules.specs.Laws.Endings.{ends-shorter}
 use Rattle.book.specs.Laws.Accepted.{Fit}
 use Rattle.trie.specs.Tables.{Tables, shortestTable}
 use Rattle.trie.specs.Walks.{ending, depth}
-use Rattle.trie.specs.Broken.{linked, links, sound, firstBreak, broken}
+use Rattle.trie.specs.Broken.{maxNumber, linked, links, sound, firstBreak, broken, maxDepth}
 use Rattle.trie.specs.Laws.Shape.{up, head, sib, Shape}
 use Rattle.trie.specs.Laws.Insert.{num}
 use Rattle.trie.specs.Laws.Build.{Numbered, Facts}
@@ -58,8 +59,8 @@ module _ (tokens : List (List ℕ)) (t : Tables) (n : ℕ) (fs : Facts tokens (l
       (λ e. let a : 0 < v = omega (arith, eqb-false v 0 e) in
       cc (
         lt-ltb (up t v) v (s .ups v a h),
-        le-leb (depth t v) maxDepth (shallow v a h),
-        le-leb (num t v) maxTokens (omega (arith, numbered-le tokens (length tokens) (ending t v) (num t v) (fs .numbered v h), fit .count)),
+        le-leb (depth t v) maxDepth (omega (arith, shallow v a h)),
+        le-leb (num t v) maxNumber (omega (arith, numbered-le tokens (length tokens) (ending t v) (num t v) (fs .numbered v h), fit .count)),
         links-true v h,
       ))
 

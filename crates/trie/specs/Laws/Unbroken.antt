@@ -8,10 +8,11 @@ use mathlib.Core.Option.{Option, some, none}
 use borrow.Author.Tests.{eqb-true, eqb-false, ne-eqb, ltb-true, ltb-false, leb-true}
 use lib.Dec.{leb, ltb, eqb}
 use lib.ListN.{length, length-drop}
+use Rattle.book.specs.Book.{maxBody, maxTokens}
 use Rattle.rules.specs.Laws.Tests.{decide, Passed, passed, split}
 use Rattle.trie.specs.Tables.{Tables, shortestTable}
 use Rattle.trie.specs.Walks.{along, childBy, ending, depth, lifted}
-use Rattle.trie.specs.Broken.{linked, links, sound, firstBreak, broken}
+use Rattle.trie.specs.Broken.{maxNumber, linked, links, sound, firstBreak, broken, maxDepth}
 use Rattle.trie.specs.Laws.Shape.{up, tag, head, sib, Falling, way-step, way-lifts}
 use Rattle.trie.specs.Laws.Insert.{num}
 
@@ -54,7 +55,7 @@ module _ (t : Tables) (count : ℕ) where
   rootTests = eqb (up t 0) 0 ∷ eqb (tag t 0) 0 ∷ eqb (num t 0) 0 ∷ eqb (sib t 0) 0 ∷ links t count 0 ∷ []
 
   abbrev nodeTests : ℕ → List Bool
-  nodeTests v = ltb (up t v) v ∷ leb (depth t v) maxDepth ∷ leb (num t v) maxTokens ∷ links t count v ∷ []
+  nodeTests v = ltb (up t v) v ∷ leb (depth t v) maxDepth ∷ leb (num t v) maxNumber ∷ links t count v ∷ []
 
   abbrev linkTests : ℕ → List Bool
   linkTests v = linked t count v (head t v) v ∷ linked t count v (sib t v) (up t v) ∷ []

@@ -2,14 +2,13 @@
 use Prim.Native.Nat.{ℕ, _-_, _≤_}
 use native.Mathlib.Omega.{arith}
 use mathlib.Core.Path.{_≡_, refl, ap, _∙_}
-use mathlib.Core.Bool.{Bool, _&&_}
-use mathlib.Core.List.{List, [], _∷_, _++_}
+use mathlib.Core.Bool.{_&&_}
+use mathlib.Core.List.{List, [], _∷_}
 use mathlib.Core.Option.{Option}
 use borrow.Author.Tests.{leb-true, ltb-true}
 use lib.Dec.{leb, ltb}
 use lib.ListN.{length, length-drop}
 use Rattle.rules.specs.Rules.{Stretch, Config, leftOver, cut, kept, recall, ended, endRound}
-use Rattle.rules.specs.Lists.{filter}
 use Rattle.rules.specs.Tokens.{ofTokens}
 use Rattle.rules.specs.Laws.Tests.{decide, and-l, and-r}
 use Rattle.rules.specs.Laws.All.{All, all-map, all-append, all-filter}

@@ -1,6 +1,6 @@
 -- Remembered stretches as spans of places, and how many there can be. `Spans D b lo ss`: from lo on, rising and apart, each
 -- before b, at most D long, and kept at b. `Laid` is what holds of them before rule 6 drops some.
-use Prim.Native.Nat.{ℕ, suc, _+_, _*_, _^_, _-_, _≤_, _<_}
+use Prim.Native.Nat.{ℕ, _+_, _*_, _^_, _-_, _≤_, _<_}
 use mathlib.Core.Bool.{Bool}
 use mathlib.Core.List.{List, [], _∷_, _++_}
 use lib.Dec.{ltb}
