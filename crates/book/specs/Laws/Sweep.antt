@@ -1,4 +1,4 @@
--- Demand 2, and the limits of demand 3 on the rules, for every accepted book.
+-- Sweeps with an accepted book: the hits are the occurrences, the sweep ends, its fetches are within the limit, its stretches few.
 use Prim.Native.Nat.{ℕ, _≤_}
 use native.Mathlib.Omega.{arith}
 use mathlib.Core.Path.{_≡_}

@@ -1,0 +1,85 @@
+"""Books and tree tables, plainly, from document 01 alone: what the proved calls are compared with."""
+
+LENGTHS = {k: k for k in range(1, 65)} | {65: 128, 66: 256, 67: 512, 68: 1024}
+
+
+def read(book):
+    """('accepted', bodies) or ('refused', number, value)."""
+    bodies, at = [], 0
+    while True:
+        if at >= len(book):
+            return ("refused", 1, len(book))
+        kind = book[at]
+        if kind > 68:
+            return ("refused", 2, at)
+        if kind == 0:
+            if at + 1 < len(book):
+                return ("refused", 3, at + 1)
+            return ("accepted", bodies) if bodies else ("refused", 6, 0)
+        size = LENGTHS[kind]
+        if at + 1 + size > len(book):
+            return ("refused", 1, at)
+        body = bytes(book[at + 1 : at + 1 + size])
+        if len(bodies) == 256 or sum(map(len, bodies)) + size > 16384:
+            return ("refused", 5, at)
+        if body in bodies:
+            return ("refused", 4, at)
+        bodies.append(body)
+        at += 1 + size
+
+
+def token(book, i):
+    """Place and length of the body of token i, or None, or 'unread'."""
+    reading = read(book)
+    if reading[0] == "refused":
+        return "unread"
+    bodies = reading[1]
+    if not 1 <= i <= len(bodies):
+        return None
+    return (sum(1 + len(b) for b in bodies[: i - 1]) + 1, len(bodies[i - 1]))
+
+
+def build(bodies):
+    """The five tables, as lists: nodes are endings in order of first occurrence."""
+    nodes = {b"": 0}
+    for body in bodies:
+        for k in range(1, len(body) + 1):
+            nodes.setdefault(body[len(body) - k :], len(nodes))
+    parent, label, tok, first, following = ([0] * len(nodes) for _ in range(5))
+    last = {}
+    for ending, v in nodes.items():
+        if v == 0:
+            continue
+        parent[v], label[v] = nodes[ending[1:]], ending[0]
+        up = parent[v]
+        if up in last:
+            following[last[up]] = v
+        else:
+            first[up] = v
+        last[up] = v
+    for i, body in enumerate(bodies):
+        tok[nodes[body]] = i + 1
+    return [parent, label, tok, first, following]
+
+
+def first_break(tables, count):
+    """The first node that breaks the tables, the shortest one's length, or None."""
+    shortest = min(map(len, tables))
+    if shortest < count:
+        return shortest
+    parent, label, tok, first, following = tables
+    depth = [0] * count
+    for v in range(count):
+        if v == 0:
+            if parent[0] or label[0] or tok[0] or following[0]:
+                return 0
+        else:
+            if parent[v] >= v or tok[v] > 256:
+                return v
+            depth[v] = depth[parent[v]] + 1
+            if depth[v] > 1024:
+                return v
+        for link, p in ((first[v], v), (following[v], parent[v])):
+            if link and not (v < link < count and parent[link] == p):
+                return v
+    return None
