@@ -9,7 +9,8 @@ use Rattle.rules.specs.Tokens.{shortestOf, longestOf}
 use Rattle.rules.specs.Sweep.{happens, limit, Few}
 use Rattle.book.specs.Book.{readBook, accepted}
 use Rattle.trie.specs.Tables.{Tables, nodes, built, Lent}
-use Rattle.scan.specs.State.{Scan}
+use Rattle.scan.specs.declared.Scan.{Scan}
+use Rattle.scan.specs.State.{used}
 use Rattle.scan.specs.Start.{start}
 use Rattle.scan.specs.Calls.{Answer, refused, Stepped, carryOn, supply}
 use Rattle.scan.specs.Answers.{answers, first, later, isRefused, isFetch}
@@ -55,7 +56,7 @@ pub record Demand3 (tokens : List (List ℕ)) (n : ℕ) (calls : List Call) (r :
   pub said : r .said ≡ expected false (answers (happens tokens n (λ k p. getD (r .taken) k 0))) calls
   pub counted : r .last .supplied ≡ length (r .taken)
   pub limited : length (r .taken) ≤ limit n (longestOf tokens)
-  pub fewNow : 4 ^ length (r .last .config .stretches) ≤ longestOf tokens
+  pub fewNow : 4 ^ length (used (r .last .stretches)) ≤ longestOf tokens
   pub fewBetween : Few (longestOf tokens) (happens tokens n (λ k p. getD (r .taken) k 0))
 
 -- Demand 3 in one piece: for every accepted book, all tables that begin with its built ones, every length that starting takes, and

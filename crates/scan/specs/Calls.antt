@@ -7,7 +7,8 @@ use Rattle.rules.specs.Rules.{Config, Event, fetched, recalled, hit, shifted, d
 use Rattle.book.specs.Book.{maxBody}
 use Rattle.trie.specs.Tables.{Tables}
 use Rattle.trie.specs.Broken.{broken}
-use Rattle.scan.specs.State.{Scan, treeOf, maxSupplied, inRange}
+use Rattle.scan.specs.declared.Scan.{Scan}
+use Rattle.scan.specs.State.{laid, configOf, treeOf, maxSupplied, maxStretches, inRange}
 
 -- What a step answers: fetch this place, a hit (end, token), done, or a refusal's number and value; and the next state.
 pub data Answer : Type 0 where
@@ -22,8 +23,17 @@ pub record Stepped : Type 0 where
 
 -- the same state at another configuration
 abbrev pub moved : Scan → Config ℕ → Bool → Scan
-moved s c due = record
-    { image = s .image; shortest = s .shortest; count = s .count; config = c; due = due; supplied = s .supplied }
+moved s c due = record {
+  image = s .image;
+  shortest = s .shortest;
+  count = s .count;
+  boundary = c .boundary;
+  node = c .node;
+  depth = c .depth;
+  due = due;
+  stretches = laid maxStretches (c .stretches);
+  supplied = s .supplied;
+}
 
 -- One byte more is supplied; the count stops.
 abbrev pub counted : Scan → Scan
@@ -31,8 +41,11 @@ counted s = record {
   image = s .image;
   shortest = s .shortest;
   count = s .count;
-  config = s .config;
+  boundary = s .boundary;
+  node = s .node;
+  depth = s .depth;
   due = false;
+  stretches = s .stretches;
   supplied = min maxSupplied (s .supplied + 1);
 }
 
@@ -91,7 +104,7 @@ abbrev pub carryOn : Tables → Scan → Stepped
 carryOn t s =
     elim (judged t s false) [
       | some a ↦ record { state = s; answer = a }
-      | none ↦ settle t s (enough s) (s .config)
+      | none ↦ settle t s (enough s) (configOf s)
     ]
 
 -- Supplying the byte x.
@@ -99,7 +112,7 @@ abbrev pub supply : Tables → Scan → ℕ → Stepped
 supply t s x =
     elim (judged t s true) [
       | some a ↦ record { state = s; answer = a }
-      | none ↦ (let w = take (treeOf t s) (s .config) x in
+      | none ↦ (let w = take (treeOf t s) (configOf s) x in
           elim (hitIn (w .events)) [
             | noHit ↦ settle t (counted s) (enough s) (w .config)
             | hitOf e i ↦ record { state = moved (counted s) (w .config) false; answer = found e i }

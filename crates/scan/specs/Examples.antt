@@ -9,7 +9,8 @@ use lib.ListN.{replicate}
 use Rattle.rules.specs.Rules.{Stretch}
 use Rattle.book.specs.Book.{accepted, refused as unstarted}
 use Rattle.trie.specs.Tables.{Tables}
-use Rattle.scan.specs.State.{Scan, inRange}
+use Rattle.scan.specs.declared.Scan.{Scan}
+use Rattle.scan.specs.State.{laid, inRange}
 use Rattle.scan.specs.Start.{started, start}
 use Rattle.scan.specs.Calls.{over, refused, agree, judged, carryOn}
 
@@ -35,15 +36,18 @@ record Sample : Type 0 where
   state : Scan
   ranged : Bool
 
--- N, S, the number of nodes, b, node, d, the stretches, whether a byte is due, bytes supplied; and whether it is in range
+-- N, S, the number of nodes, b, node, d, the first slots, whether a byte is due, bytes supplied; and whether it is in range
 row : ℕ → ℕ → ℕ → ℕ → ℕ → ℕ → List (Stretch ℕ) → Bool → ℕ → Bool → Sample
 row n s k b v d ss due supplied ranged = record {
   state = record {
     image = n;
     shortest = s;
     count = k;
-    config = record { boundary = b; node = v; depth = d; stretches = ss };
+    boundary = b;
+    node = v;
+    depth = d;
     due = due;
+    stretches = laid 5 ss;
     supplied = supplied;
   };
   ranged = ranged;
@@ -88,6 +92,8 @@ samples =
     ∷ row 30 20 21 24 0 0 (stretch 20 24 4 ∷ []) false 0 false  -- r < b
     ∷ row 30 20 21 26 0 0 (stretch 20 24 4 ∷ []) false 0 false  -- kept by rule 6
     ∷ row 30 20 21 26 0 0 (stretch 16 24 8 ∷ []) false 0 true
+    ∷ row 30 20 21 25 0 0 (stretch 0 0 0 ∷ stretch 20 24 4 ∷ []) false 0 false  -- no zeros before a slot in use
+    ∷ row 30 20 21 25 0 0 (stretch 0 0 1 ∷ []) false 0 false  -- a slot is in use unless it is all zeros
     ∷ row 30 20 21 25 0 0 two true 0 true  -- a byte is due: the rules fetch place 24,
     ∷ row 30 20 21 25 1 1 two true 0 false  -- remember place 23,
     ∷ row 30 20 21 31 0 0 [] true 0 false  -- are done,

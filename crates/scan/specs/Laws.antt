@@ -1,7 +1,8 @@
 -- The laws of the calls. Over tables that represent the tokens: what a state comes to (Walk), that it is in its ranges (Range),
 -- and that a call in turn answers what the rules say next (Settle). Over any tables that pass refusal 9: a state in its ranges
--- (Within) stays there by a step (Stay) and by a call (Kept).
+-- (Within) stays there by a step (Stay) and by a call (Kept). Slots: the stretches in a state are those laid there.
 pub mod Mild
+pub mod Slots
 pub mod Walk
 pub mod Within
 pub mod Range

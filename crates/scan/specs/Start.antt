@@ -4,7 +4,8 @@ use mathlib.Core.Bool.{Bool, true, false}
 use mathlib.Core.List.{[]}
 use lib.Dec.{ltb}
 use Rattle.book.specs.Book.{Verdict, accepted, refused, maxImage}
-use Rattle.scan.specs.State.{Scan}
+use Rattle.scan.specs.declared.Scan.{Scan}
+use Rattle.scan.specs.State.{maxStretches, laid}
 
 -- b is S, the node the root, all else 0.
 abbrev pub started : ℕ → ℕ → ℕ → Scan
@@ -12,8 +13,11 @@ started n shortest count = record {
   image = n;
   shortest = shortest;
   count = count;
-  config = record { boundary = shortest; node = 0; depth = 0; stretches = [] };
+  boundary = shortest;
+  node = 0;
+  depth = 0;
   due = false;
+  stretches = laid maxStretches [];
   supplied = 0;
 }
 

@@ -1,22 +1,44 @@
 -- The scan state of the sweep by single bytes, and its ranges (refusal 10), in document 01's order.
-use Prim.Native.Nat.{ℕ, _+_, _-_}
+use Prim.Native.Nat.{ℕ, zero, suc, _+_, _-_}
 use mathlib.Core.Bool.{Bool, true, false, _&&_, _||_, not}
 use mathlib.Core.List.{List, [], _∷_}
 use lib.Dec.{leb, ltb, eqb}
-use lib.ListN.{length}
 use Rattle.rules.specs.Rules.{Tree, Stretch, Config, Next, finished, wants, goes, kept, next}
 use Rattle.book.specs.Book.{maxBodies, maxBody, maxImage}
 use Rattle.trie.specs.Tables.{Tables}
 use Rattle.trie.specs.Walks.{ofTables, depth}
+use Rattle.scan.specs.declared.Scan.{Scan}
+use Rattle.scan.specs.declared.Stretch.{Stretch as Slot}
 
--- N, S, the number of nodes, where the round stands, whether a byte is due, and how many were supplied so far.
-pub record Scan : Type 0 where
-  pub image : ℕ
-  pub shortest : ℕ
-  pub count : ℕ
-  pub config : Config ℕ
-  pub due : Bool
-  pub supplied : ℕ
+-- The rules' stretch of a slot, and the slot of a stretch.
+abbrev pub stretchOf : Slot → Stretch ℕ
+stretchOf s = record { left = s .left; right = s .right; node = s .node }
+
+abbrev pub slotOf : Stretch ℕ → Slot
+slotOf m = record { left = m .left; right = m .right; node = m .node }
+
+-- A slot that holds no stretch.
+abbrev pub unused : Slot
+unused = record { left = 0; right = 0; node = 0 }
+
+-- A slot is in use if it is not all zeros.
+abbrev pub inUse : Slot → Bool
+inUse s = not (eqb (s .left) 0 && eqb (s .right) 0 && eqb (s .node) 0)
+
+-- The stretches of the slots in use that come first.
+abbrev pub used : List Slot → List (Stretch ℕ)
+used [] = []
+used (s ∷ ss) = elim (inUse s) [ true ↦ stretchOf s ∷ used ss | false ↦ [] ]
+
+-- The stretches laid into so many slots, zeros behind.
+abbrev pub laid : ℕ → List (Stretch ℕ) → List Slot
+laid zero ms = []
+laid (suc k) [] = unused ∷ laid k []
+laid (suc k) (m ∷ ms) = slotOf m ∷ laid k ms
+
+-- Where the round of a state stands, with the stretches in use.
+abbrev pub configOf : Scan → Config ℕ
+configOf s = record { boundary = s .boundary; node = s .node; depth = s .depth; stretches = used (s .stretches) }
 
 -- the ends of the ranges: nodes, S, b in an image of n bytes, bytes supplied, stretches
 abbrev pub maxNodes : ℕ
@@ -52,11 +74,11 @@ shortestOk s = leb 1 (s .shortest) && leb (s .shortest) maxShortest
 
 -- The node is below the count and d deep.
 abbrev pub nodeOk : Tables → Scan → Bool
-nodeOk t s = ltb (s .config .node) (s .count) && eqb (depth t (s .config .node)) (s .config .depth)
+nodeOk t s = ltb (s .node) (s .count) && eqb (depth t (s .node)) (s .depth)
 
 -- d ≤ b ≤ N + 1,024.
 abbrev pub boundaryOk : Scan → Bool
-boundaryOk s = leb (s .config .depth) (s .config .boundary) && leb (s .config .boundary) (farthest (s .image))
+boundaryOk s = leb (s .depth) (s .boundary) && leb (s .boundary) (farthest (s .image))
 
 -- At most 1,000,000,000 bytes were supplied.
 abbrev pub suppliedOk : Scan → Bool
@@ -65,17 +87,29 @@ suppliedOk s = leb (s .supplied) maxSupplied
 -- A stretch lies within the image, before b, is as long as its node is deep, and is kept by rule 6 at b.
 abbrev pub stretchOk : Tables → Scan → Stretch ℕ → Bool
 stretchOk t s m =
-    ltb (m .left) (m .right) && leb (m .right) (s .image) && ltb (m .right) (s .config .boundary)
-    && ltb (m .node) (s .count) && eqb (depth t (m .node)) (m .right - m .left) && kept (s .config .boundary) m
+    ltb (m .left) (m .right) && leb (m .right) (s .image) && ltb (m .right) (s .boundary)
+    && ltb (m .node) (s .count) && eqb (depth t (m .node)) (m .right - m .left) && kept (s .boundary) m
 
 -- From place `from` on, the stretches are disjoint and rise.
 abbrev pub rising : Tables → Scan → ℕ → List (Stretch ℕ) → Bool
 rising t s from [] = true
 rising t s from (m ∷ ms) = leb from (m .left) && stretchOk t s m && rising t s (m .right) ms
 
--- The stretches are in range, at most five.
+-- the two hold the same numbers
+abbrev pub sameSlots : List Slot → List Slot → Bool
+sameSlots [] [] = true
+sameSlots [] (q ∷ qs) = false
+sameSlots (p ∷ ps) [] = false
+sameSlots (p ∷ ps) (q ∷ qs) =
+    eqb (p .left) (q .left) && eqb (p .right) (q .right) && eqb (p .node) (q .node) && sameSlots ps qs
+
+-- There are five slots; those in use come first, and the others hold zeros.
+abbrev pub slotsOk : Scan → Bool
+slotsOk s = sameSlots (s .stretches) (laid maxStretches (used (s .stretches)))
+
+-- The stretches are in range.
 abbrev pub stretchesOk : Tables → Scan → Bool
-stretchesOk t s = leb (length (s .config .stretches)) maxStretches && rising t s 0 (s .config .stretches)
+stretchesOk t s = slotsOk s && rising t s 0 (used (s .stretches))
 
 -- The rules fetch a byte here.
 abbrev pub wantsByte : {E : Type 0} → Next E → Bool
@@ -85,7 +119,7 @@ wantsByte (goes s) = false
 
 -- A byte is due only where the rules fetch one.
 abbrev pub dueOk : Tables → Scan → Bool
-dueOk t s = not (s .due) || wantsByte (next (treeOf t s) (s .image) (s .config))
+dueOk t s = not (s .due) || wantsByte (next (treeOf t s) (s .image) (configOf s))
 
 -- Refusal 10 does not come: the state is in its ranges.
 abbrev pub inRange : Tables → Scan → Bool

@@ -12,7 +12,7 @@ use Rattle.book.specs.Book.{readBook, accepted, maxImage}
 use Rattle.book.specs.Laws.Sweep.{book-exact}
 use Rattle.trie.specs.Tables.{Tables, nodes, built, Lent}
 use Rattle.trie.specs.Walks.{ofTables}
-use Rattle.scan.specs.State.{Scan}
+use Rattle.scan.specs.declared.Scan.{Scan}
 use Rattle.scan.specs.Start.{started, start}
 use Rattle.scan.specs.Calls.{carryOn}
 use Rattle.scan.specs.Answers.{answers}

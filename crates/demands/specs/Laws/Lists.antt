@@ -9,10 +9,11 @@ use lib.ListN.{length, getD, drop, length-append}
 use Rattle.rules.specs.Rules.{Config}
 use Rattle.rules.specs.Sweep.{limit}
 use Rattle.trie.specs.Tables.{Tables}
+use Rattle.scan.specs.State.{used}
 use Rattle.scan.specs.Calls.{Answer, refused, Stepped, carryOn, supply}
 use Rattle.scan.specs.Answers.{isRefused, isFetch, first, later}
 use Rattle.scan.specs.Laws.Walk.{Given, Sat}
-use Rattle.scan.specs.Laws.Range.{stateAt, sat-few, sat-below}
+use Rattle.scan.specs.Laws.Range.{stateAt, sat-few, sat-below, stands}
 use Rattle.scan.specs.Laws.Settle.{Todo, Settled, carry-refused, supply-refused, carry-settles, supply-plain, supply-settles}
 use Rattle.demands.specs.Demand3.{Call, carry, give, Ran, tookBy, ran, expected}
 
@@ -47,7 +48,7 @@ module _ {tokens : List (List ℕ)} {S D : ℕ} {t : Tables} {count n : ℕ} (gi
     pub said : r .said ≡ expected due todo cs
     pub counted : r .last .supplied ≡ k + length (r .taken)
     pub limited : k + length (r .taken) ≤ limit n D
-    pub few : 4 ^ length (r .last .config .stretches) ≤ D
+    pub few : 4 ^ length (used (r .last .stretches)) ≤ D
 
   abbrev Goes : List Call → Type 0
   Goes cs = (c : Config ℕ) (due : Bool) (k : ℕ) (todo : List Answer) → Sat given c k → Todo given ask k due c todo
@@ -109,7 +110,7 @@ module _ {tokens : List (List ℕ)} {S D : ℕ} {t : Tables} {count n : ℕ} (gi
     said = refl;
     counted = omega arith;
     limited = omega (arith, sat-below given c k s);
-    few = sat-few given c k s;
+    few = subst (λ d. 4 ^ length (d .stretches) ≤ D) (sym (stands given c due k s)) (sat-few given c k s);
   }
   calls-right (carry ∷ cs) c true k todo s h e =
       refused-right carry cs (calls-right cs) c true k todo s h refl refl (carryOn t (stateAt n S count c true k))

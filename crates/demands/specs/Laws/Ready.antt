@@ -16,7 +16,7 @@ use Rattle.book.specs.Laws.Accepted.{accepted-fit, accepted-some, accepted-sett
 use Rattle.trie.specs.Tables.{Tables, nodes, built, Lent}
 use Rattle.trie.specs.Walks.{ending, ofTables}
 use Rattle.trie.specs.Laws.Represents.{built-represents}
-use Rattle.scan.specs.State.{Scan}
+use Rattle.scan.specs.declared.Scan.{Scan}
 use Rattle.scan.specs.Start.{started, start, tooLong}
 use Rattle.scan.specs.Answers.{answers}
 use Rattle.scan.specs.Laws.Mild.{events-answers}

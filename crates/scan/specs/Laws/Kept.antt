@@ -9,9 +9,10 @@ use Rattle.rules.specs.Rules.{Config, Step, Next, finished, wants, goes, take, 
 use Rattle.rules.specs.Laws.Tests.{clash}
 use Rattle.trie.specs.Tables.{Tables}
 use Rattle.trie.specs.Broken.{broken}
-use Rattle.scan.specs.State.{Scan, treeOf, wantsByte, inRange, maxSupplied}
-use Rattle.scan.specs.Calls.{Answer, refused, Hit, noHit, hitOf, hitIn, moved, counted, settle, enough, agree, judged, carryOn, supply}
-use Rattle.scan.specs.Laws.Within.{Ready, Within, in-range, ready, counts, dues, within}
+use Rattle.scan.specs.declared.Scan.{Scan}
+use Rattle.scan.specs.State.{configOf, treeOf, wantsByte, inRange, maxSupplied}
+use Rattle.scan.specs.Calls.{Answer, refused, Hit, noHit, hitOf, hitIn, counted, settle, enough, agree, judged, carryOn, supply}
+use Rattle.scan.specs.Laws.Within.{Ready, Within, in-range, ready, slots, counts, dues, within, moved-range}
 use Rattle.scan.specs.Laws.Stay.{WithinNext, next-within}
 use Rattle.scan.specs.Laws.Settle.{Enough, enough-steps, onHit, onNext, onJudged}
 
@@ -60,13 +61,13 @@ module _ (t : Tables) (s : Scan) (r : ReadyFor t s) where
     hit-kept : (fuel : ℕ) → ((c : Config ℕ) → WithinFor t s c → inRange t (settle t s fuel c .state) ≡ true)
         → (w : Step ℕ) → WithinFor t s (w .config) → (x : Hit) → inRange t (onHit t s fuel w x .state) ≡ true
     hit-kept fuel ih w h noHit = ih (w .config) h
-    hit-kept fuel ih w h (hitOf e i) = in-range t (moved s (w .config) false) r few h refl
+    hit-kept fuel ih w h (hitOf e i) = moved-range t s r few (w .config) h false refl
 
     next-kept : (fuel : ℕ) → ((c : Config ℕ) → WithinFor t s c → inRange t (settle t s fuel c .state) ≡ true)
         → (c : Config ℕ) → WithinFor t s c → (x : Next ℕ) → next (treeOf t s) (s .image) c ≡ x → NextFor t s c x
         → inRange t (onNext t s fuel c x .state) ≡ true
-    next-kept fuel ih c h finished e n = in-range t (moved s c false) r few h refl
-    next-kept fuel ih c h (wants at) e n = in-range t (moved s c true) r few h (ap wantsByte e)
+    next-kept fuel ih c h finished e n = moved-range t s r few c h false refl
+    next-kept fuel ih c h (wants at) e n = moved-range t s r few c h true (ap wantsByte e)
     next-kept fuel ih c h (goes w) e n = hit-kept fuel ih w (n .within) (hitIn (w .events))
 
     pub settle-kept : inRange t s ≡ true → (fuel : ℕ) (c : Config ℕ) → WithinFor t s c → inRange t (settle t s fuel c .state) ≡ true
@@ -97,23 +98,23 @@ module _ (t : Tables) (s : Scan) (turn : Bool) (e : judged t s turn ≡ none) wh
   pub admitted-ready : ReadyFor t s
   admitted-ready = let a = admitted t s turn e in ready t s (a .1) (a .0)
 
-  pub admitted-within : WithinFor t s (s .config)
+  pub admitted-within : WithinFor t s (configOf s)
   admitted-within = within t s (admitted t s turn e .1) (admitted-ready .tree)
 
 pub carry-kept : (t : Tables) (s : Scan) → judged t s false ≡ none → inRange t (carryOn t s .state) ≡ true
 carry-kept t s e =
     let ranged = admitted t s false e .1 in
-    ap (λ j. inRange t (onJudged s (settle t s (enough s) (s .config)) j .state)) e
-    ∙ settle-kept t s (admitted-ready t s false e) (counts t s ranged) ranged (enough s) (s .config) (admitted-within t s false e)
+    ap (λ j. inRange t (onJudged s (settle t s (enough s) (configOf s)) j .state)) e
+    ∙ settle-kept t s (admitted-ready t s false e) (counts t s ranged) ranged (enough s) (configOf s) (admitted-within t s false e)
 
 -- The byte that is due leaves the configuration in range.
-pub supplied-within : (t : Tables) (s : Scan) (x : ℕ) → judged t s true ≡ none → WithinFor t s (take (treeOf t s) (s .config) x .config)
+pub supplied-within : (t : Tables) (s : Scan) (x : ℕ) → judged t s true ≡ none → WithinFor t s (take (treeOf t s) (configOf s) x .config)
 supplied-within t s x e =
     let a = admitted t s true e in
-    go (next (treeOf t s) (s .image) (s .config)) (next-within (admitted-ready t s true e) (s .config) (admitted-within t s true e))
-    (subst (λ d. (not d || wantsByte (next (treeOf t s) (s .image) (s .config))) ≡ true) (a .2) (dues t s (a .1)))
+    go (next (treeOf t s) (s .image) (configOf s)) (next-within (admitted-ready t s true e) (configOf s) (admitted-within t s true e))
+    (subst (λ d. (not d || wantsByte (next (treeOf t s) (s .image) (configOf s))) ≡ true) (a .2) (dues t s (a .1)))
   where
-    go : (n : Next ℕ) → NextFor t s (s .config) n → wantsByte n ≡ true → WithinFor t s (take (treeOf t s) (s .config) x .config)
+    go : (n : Next ℕ) → NextFor t s (configOf s) n → wantsByte n ≡ true → WithinFor t s (take (treeOf t s) (configOf s) x .config)
     go finished h p = absurd (clash false p refl)
     go (wants at) h p = h x .within
     go (goes w) h p = absurd (clash false p refl)
@@ -121,8 +122,8 @@ supplied-within t s x e =
 pub supply-kept : (t : Tables) (s : Scan) (x : ℕ) → judged t s true ≡ none → inRange t (supply t s x .state) ≡ true
 supply-kept t s x e =
     let r = admitted-ready t s true e in
-    let w = take (treeOf t s) (s .config) x in
+    let w = take (treeOf t s) (configOf s) x in
     let few : counted s .supplied ≤ maxSupplied = omega arith in
-    let kept = settle-kept t (counted s) r few (in-range t (counted s) r few (admitted-within t s true e) refl) (enough s) in
+    let kept = settle-kept t (counted s) r few (in-range t (counted s) r few (slots t s (admitted t s true e .1)) (admitted-within t s true e) refl) (enough s) in
     ap (λ j. inRange t (onJudged s (onHit t (counted s) (enough s) w (hitIn (w .events))) j .state)) e
     ∙ hit-kept t (counted s) r few (enough s) kept w (supplied-within t s x e) (hitIn (w .events))

@@ -17,13 +17,24 @@ use Rattle.trie.specs.Tables.{Tables}
 use Rattle.trie.specs.Walks.{ending, ofTables}
 use Rattle.trie.specs.Laws.Unbroken.{unbroken}
 use Rattle.scan.specs.Calls.{refused, outOfTurn, judged}
-use Rattle.scan.specs.State.{Scan, wantsByte, inRange, maxSupplied}
+use Rattle.scan.specs.declared.Scan.{Scan}
+use Rattle.scan.specs.State.{configOf, laid, maxStretches, wantsByte, inRange, maxSupplied}
 use Rattle.scan.specs.Laws.Walk.{Given, Sat}
-use Rattle.scan.specs.Laws.Within.{Ready, Within, four-few, in-range}
+use Rattle.scan.specs.Laws.Within.{Ready, Within, four-few, moved-config, moved-range}
 
 -- The state after k bytes.
 abbrev pub stateAt : ℕ → ℕ → ℕ → Config ℕ → Bool → ℕ → Scan
-stateAt n S count c due k = record { image = n; shortest = S; count = count; config = c; due = due; supplied = k }
+stateAt n S count c due k = record {
+  image = n;
+  shortest = S;
+  count = count;
+  boundary = c .boundary;
+  node = c .node;
+  depth = c .depth;
+  due = due;
+  stretches = laid maxStretches (c .stretches);
+  supplied = k;
+}
 
 limit-cap : (n D : ℕ) → 1 ≤ D → D ≤ maxBody → n ≤ maxImage → limit n D < maxSupplied
 limit-cap n D h k i =
@@ -74,10 +85,14 @@ module _ {tokens : List (List ℕ)} {S D : ℕ} {t : Tables} {count n : ℕ} (gi
     first = omega (arith, given .first);
   }
 
+  -- The state stands at its configuration.
+  pub stands : (c : Config ℕ) (due : Bool) (k : ℕ) → Sat given c k → configOf (stateAt n S count c due k) ≡ c
+  stands c due k s = moved-config t (stateAt n S count c due k) c (sat-within c k s) due
+
   module _ (c : Config ℕ) (due : Bool) (k : ℕ) (s : Sat given c k)
       (w : (not due || wantsByte (next (ofTables t count S) n c)) ≡ true) where
     sat-range : inRange t (stateAt n S count c due k) ≡ true
-    sat-range = in-range t (stateAt n S count c due k) sat-ready (omega (arith, sat-cap c k s)) (sat-within c k s) w
+    sat-range = moved-range t (stateAt n S count c due k) sat-ready (omega (arith, sat-cap c k s)) c (sat-within c k s) due w
 
     -- A call is judged by its turn alone.
     pub judged-turn : (turn : Bool)

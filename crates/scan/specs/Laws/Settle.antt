@@ -13,11 +13,12 @@ use Rattle.rules.specs.Laws.Limit.Ends.{stepsLeft}
 use Rattle.trie.specs.Tables.{Tables}
 use Rattle.trie.specs.Walks.{ofTables}
 use Rattle.scan.specs.Calls.{Answer, fetch, found, over, refused, Stepped, Hit, noHit, hitOf, hitIn, moved, counted, settle, enough, carryOn, supply}
-use Rattle.scan.specs.State.{Scan, wantsByte, maxSupplied}
+use Rattle.scan.specs.declared.Scan.{Scan}
+use Rattle.scan.specs.State.{wantsByte, maxSupplied}
 use Rattle.scan.specs.Answers.{answers, isRefused, isFetch, first, later}
 use Rattle.scan.specs.Laws.Mild.{answered}
 use Rattle.scan.specs.Laws.Walk.{Given, Sat, SatStep, SatNext, next-sat}
-use Rattle.scan.specs.Laws.Range.{stateAt, sat-cap, judged-turn}
+use Rattle.scan.specs.Laws.Range.{stateAt, sat-cap, stands, judged-turn}
 
 -- There are steps enough before the boundary has passed the image.
 abbrev pub Enough : ℕ → ℕ → Config ℕ → ℕ → Type 0
@@ -161,7 +162,8 @@ module _ {tokens : List (List ℕ)} {S D : ℕ} {t : Tables} {count n : ℕ} (gi
     pub carry-settles : (todo : List Answer) → Todo k false c todo → Settled k todo (carryOn t (stateAt n S count c false k))
     carry-settles todo h =
         let st = stateAt n S count c false k in
-        let is : carryOn t st ≡ settle t st (enough st) c = ap (onJudged _ _) (judged-turn given c false k s refl false) in
+        let is : carryOn t st ≡ settle t st (enough st) c =
+        ap (onJudged _ _) (judged-turn given c false k s refl false) ∙ ap (settle t st (enough st)) (stands given c false k s) in
         subst (Settled k todo) (sym is) (subst (λ todo. Settled k todo (settle t st (enough st) c)) (sym (h .2))
         (settle-settles c false k (enough st) (h .0) c s (omega arith) (enough-steps n D (given .short) c) (h .1)))
 
@@ -171,8 +173,9 @@ module _ {tokens : List (List ℕ)} {S D : ℕ} {t : Tables} {count n : ℕ} (gi
       supply-is x =
           let st = stateAt n S count c true k in
           let w = take (ofTables t count S) c x in
-          let is : supply t st x ≡ onHit t (counted st) (enough st) w (hitIn (w .events)) =
-          ap (onJudged _ _) (judged-turn given c true k s (ap wantsByte (h .2)) true) in
+          let go : Config ℕ → Stepped = λ c. (let w = take (ofTables t count S) c x in onHit t (counted st) (enough st) w (hitIn (w .events))) in
+          let is : supply t st x ≡ go c =
+          ap (onJudged _ _) (judged-turn given c true k s (ap wantsByte (h .2)) true) ∙ ap go (stands given c true k s) in
           let m : min maxSupplied (k + 1) ≡ k + 1 = omega (arith, sat-cap given c k s) in
           is ∙ ap (λ m. onHit t (stateAt n S count c false m) (enough st) w (hitIn (w .events))) m
 
