@@ -26,8 +26,8 @@ def book_of(bodies):
 
 
 def numbered(i, size):
-    """Bodies that differ in their first bytes, or for size 1 in their only one."""
-    return (bytes([i % 256, i // 256]) + bytes([7]) * size)[:size]
+    """Bodies that differ in their last bytes, so that they share no ending, or only a short one."""
+    return (bytes([7]) * size + bytes([i // 256, i % 256]))[-size:]
 
 
 def digest(lists):
@@ -82,7 +82,7 @@ def cases():
     yield book_of(long + [b"x"]), full, 1, none, 1
     yield book_of(long), [16384] + full[1:], 1, none, 1
     many = [numbered(i, 64) for i in range(256)]
-    yield book_of(many), full, 256, none, 16129
+    yield book_of(many), full, 256, none, 16385
     small = [numbered(i, 2) for i in range(256)]
     yield book_of(small), full, 257, none, 300
     yield book_of(small + [b"abc"]), full, 1, none, 1

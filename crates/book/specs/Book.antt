@@ -61,6 +61,10 @@ module _ (book : List ℕ) (at : ℕ) where
   abbrev pub bodyShort : Bool
   bodyShort = ltb (length book) (at + 1 + sizeAt)
 
+  -- The body's length where a whole record stands, and else 0.
+  abbrev pub wholeAt : ℕ
+  wholeAt = elim (kindMissing || kindUnknown || bodyShort) [ true ↦ 0 | false ↦ sizeAt ]
+
   -- Refusal 5: token 257, or body bytes over 16,384.
   abbrev pub overLimits : List (List ℕ) → Bool
   overLimits tokens = leb maxTokens (length tokens) || ltb maxBodies (total tokens + sizeAt)

@@ -1,1 +1,143 @@
-// The revocation book: its records and what is refused.
+// The revocation book: its limits, how it is read, what is refused, and where its tokens stand.
+mod records;
+mod repeats;
+mod sums;
+
+use records::body_length;
+use repeats::repeated;
+ghost use mathlib.Core.Path.{_≡_};
+ghost use mathlib.Core.List.{List};
+ghost use Prim.Native.Nat.{ℕ, _<_};
+ghost use lib.ListN.{length};
+ghost use Rattle.book.specs.Book.{wholeAt, closed, readBook, summary, placeIn};
+ghost use Rattle.book.specs.Answers.{Amounts, verdictOf, placeOf};
+
+// The limits belong to the book itself.
+pub struct Book;
+
+impl Book {
+    pub const TOKENS: usize = 256;
+
+    pub const BODIES: usize = 16384;
+
+    pub const IMAGE: usize = 16777216;
+
+    pub const BODY: usize = 1024;
+}
+
+// Document 01's refusals 1 to 6, each with its value.
+pub enum Refusal {
+    Unfinished(usize),
+    UnknownKind(usize),
+    Trailing(usize),
+    Repeat(usize),
+    OverLimits(usize),
+    NoToken,
+}
+
+// How many tokens there are, all body bytes, S and D.
+pub struct Totals {
+    pub tokens: usize,
+    pub bodies: usize,
+    pub shortest: usize,
+    pub longest: usize,
+}
+
+pub enum Reading {
+    Accepted(Totals),
+    Refused(Refusal),
+}
+
+// Place and length of a token's body; or the token is not in the book; or the book is refused.
+pub enum Place {
+    Found(usize, usize),
+    Missing,
+    Unread,
+}
+
+// The body's length of the record at `at`, or 0 where no whole record with a body stands there.
+pub fn body_at(book: &[u8], at: usize) -> usize
+    ensures { λ r. ⌜ r ≡ wholeAt (now (book .entry)) at ⌝ }
+{
+    if book.len() <= at {
+        return 0;
+    }
+    let kind = book[at];
+    if 0x44 < kind {
+        return 0;
+    }
+    let size = body_length(kind);
+    // As a difference, since a sum could wrap.
+    if book.len() - at - 1 < size {
+        return 0;
+    }
+    size
+}
+
+// Whether the book is accepted, and what its tokens amount to.
+pub fn read(book: &[u8]) -> Reading
+    ensures { λ r. ⌜ verdictOf r ≡ summary (readBook (now (book .entry))) ⌝ }
+{
+    let mut at = 0;
+    let mut totals = Totals::none();
+    loop {
+        if book.len() <= at {
+            return Reading::Refused(Refusal::Unfinished(book.len()));
+        }
+        let kind = book[at];
+        if 0x44 < kind {
+            return Reading::Refused(Refusal::UnknownKind(at));
+        }
+        if kind == 0 {
+            return finish(book, at, totals);
+        }
+        let size = body_length(kind);
+        if book.len() - at - 1 < size {
+            return Reading::Refused(Refusal::Unfinished(at));
+        }
+        if totals.over(size) {
+            return Reading::Refused(Refusal::OverLimits(at));
+        }
+        if repeated(book, at, size) {
+            return Reading::Refused(Refusal::Repeat(at));
+        }
+        totals = totals.with(size);
+        at += 1 + size;
+    }
+}
+
+// After 00h at place `at`: 3, then 6.
+fn finish(book: &[u8], at: usize, totals: Totals) -> Reading
+    requires { ⌜ at < length (now book) ⌝ }
+    ensures { λ r. ⌜ ((ts : List (List ℕ)) → Amounts totals ts → verdictOf r ≡ summary (closed (now (book .entry)) at ts)) ⌝ }
+{
+    if at + 1 < book.len() {
+        return Reading::Refused(Refusal::Trailing(at + 1));
+    }
+    if totals.tokens == 0 {
+        return Reading::Refused(Refusal::NoToken);
+    }
+    Reading::Accepted(totals)
+}
+
+// Where the body of token number `i`, from 1, stands: past the records before it.
+pub fn token(book: &[u8], i: usize) -> Place
+    ensures { λ r. ⌜ placeOf r ≡ placeIn (readBook (now (book .entry))) i ⌝ }
+{
+    let Reading::Accepted(totals) = read(book) else {
+        return Place::Unread;
+    };
+    if i == 0 {
+        return Place::Missing;
+    }
+    if totals.tokens < i {
+        return Place::Missing;
+    }
+    let mut at = 0;
+    let mut passed = 0;
+    while passed + 1 < i {
+        at += 1 + body_at(book, at);
+        passed += 1;
+    }
+    Place::Found(at + 1, body_at(book, at))
+}

@@ -8,7 +8,7 @@ fn line(word: &[u8]) {
 
 fn number(n: usize) {
     io::write_all(1, b" ");
-    io::number::print_decimal(1, n as u64);
+    io::print_decimal(1, n as u64);
 }
 
 fn refused(kind: usize, value: usize) {
@@ -136,6 +136,6 @@ pub fn digest(parent: &[u16], label: &[u8], token: &[u16], first: &[u16], next: 
     let d = mixed_entries(c, first);
     let e = mixed_entries(d, next);
     io::write_all(1, b"digest ");
-    io::number::print_decimal(1, e);
+    io::print_decimal(1, e);
     io::write_all(1, b"\n");
 }

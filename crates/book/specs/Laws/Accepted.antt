@@ -1,20 +1,18 @@
 -- What the tokens of an accepted book are: some, not too many nor too long, and no two alike; so they make a `Setting`.
 use Prim.Native.Nat.{ℕ, zero, suc, _+_, _-_, _≤_, _<_}
 use native.Mathlib.Omega.{arith}
-use native.Mathlib.Nat.{pow-le-pow-right}
 use mathlib.Core.Path.{_≡_, refl, sym}
 use mathlib.Core.Bool.{false}
 use mathlib.Core.List.{List, [], _∷_, _++_}
-use borrow.Author.Tests.{leb-true, leb-false, ltb-false, eqb-false}
-use lib.Dec.{leb}
-use lib.ListN.{length, getD, length-append, length-take, length-drop}
+use lib.ListN.{length, getD, length-append}
 use Rattle.rules.specs.Lists.{same, any}
 use Rattle.rules.specs.Tokens.{total, shortestOf, longestOf}
-use Rattle.rules.specs.Laws.Tests.{decide, clash, or-nl, or-nr, any-in}
+use Rattle.rules.specs.Laws.Tests.{clash, any-in}
 use Rattle.rules.specs.Laws.Endings.{same-refl}
 use Rattle.rules.specs.Laws.Lengths.{shortest-le, longest-ge, shortest-is, longest-is}
 use Rattle.rules.specs.Laws.Setting.{Setting}
-use Rattle.book.specs.Book.{Reading, accepted, refused, maxTokens, maxBodies, bodyLength, kindAt, sizeAt, bodyAt, kindMissing, kindUnknown, closes, bodyShort, overLimits, repeats, trailing, noToken, closed, readFrom, readBook, maxBody}
+use Rattle.book.specs.Book.{accepted, maxTokens, maxBodies, maxBody, bodyAt, readBook}
+use Rattle.book.specs.Laws.Taken.{Taken, opened-range, opened-length, accepted-keeps}
 
 -- What holds of the tokens read so far.
 pub record Fit (tokens : List (List ℕ)) : Type 0 where
@@ -22,16 +20,6 @@ pub record Fit (tokens : List (List ℕ)) : Type 0 where
   pub count : length tokens ≤ maxTokens
   pub bodies : total tokens ≤ maxBodies
   pub distinct : (i j : ℕ) → i < length tokens → j < length tokens → getD tokens i [] ≡ getD tokens j [] → i ≡ j
-
-bodyLength-range : (kind : ℕ) → 1 ≤ kind → kind ≤ 68 → (1 ≤ bodyLength kind) × (bodyLength kind ≤ maxBody)
-bodyLength-range kind h k =
-    decide (λ n. (1 ≤ n) × (n ≤ maxBody)) (leb kind 64) _ _ (λ t. omega (arith, leb-true kind 64 t))
-    (λ f. omega (
-      arith,
-      leb-false kind 64 f,
-      pow-le-pow-right {n = 2} (omega arith) {i = 0} {j = kind - 65} (omega arith),
-      pow-le-pow-right {n = 2} (omega arith) {i = kind - 65} {j = 3} (omega arith),
-    ))
 
 -- One token more.
 each-snoc : (P : ℕ → List ℕ → Type 0) (l : List (List ℕ)) (a : List ℕ) → ((i : ℕ) → i < length l → P i (getD l i [])) → P (length l) a
@@ -41,7 +29,7 @@ each-snoc P [] a f p (suc i) h = absurd (omega arith)
 each-snoc P (x ∷ l) a f p zero h = f 0 (omega arith)
 each-snoc P (x ∷ l) a f p (suc i) h = each-snoc (λ i. P (suc i)) l a (λ i h. f (suc i) (omega arith)) p i (omega arith)
 
-total-snoc : (l : List (List ℕ)) (a : List ℕ) → total (l ++ (a ∷ [])) ≡ total l + length a
+pub total-snoc : (l : List (List ℕ)) (a : List ℕ) → total (l ++ (a ∷ [])) ≡ total l + length a
 total-snoc [] a = omega arith
 total-snoc (x ∷ l) a = omega (arith, total-snoc l a)
 
@@ -61,52 +49,22 @@ fit-snoc tokens body f b n m new = record {
     other : (i : ℕ) → i < length tokens → getD tokens i [] ≡ body → ⊥
     other i i< e = clash (any (same body) tokens) (any-in (same body) tokens [] i i< (rw e (same-refl body))) new
 
--- The whole of a book.
-module _ (book : List ℕ) (tokens : List (List ℕ)) where
-  abbrev Result : Reading → Type 0
-  Result r = r ≡ accepted tokens → Fit tokens × (1 ≤ length tokens)
-
-  refuses : (k v : ℕ) → Result (refused k v)
-  refuses k v e = absurd (let z : _≡_ {A = ℕ} 0 1 = cc in omega arith)
-
-  closed-fit : (at : ℕ) (ts : List (List ℕ)) → Fit ts → Result (closed book at ts)
-  closed-fit at ts f =
-      decide Result (trailing book at) _ _ (λ _. refuses 3 (at + 1))
-      (λ _. decide Result (noToken ts) _ _ (λ _. refuses 6 0)
-      (λ e q. let z : tokens ≡ ts = cc in rw z (f, omega (arith, eqb-false (length ts) 0 e))))
-
-  read-fit : (fuel at : ℕ) (ts : List (List ℕ)) → Fit ts → Result (readFrom book fuel at ts)
-  read-fit zero at ts f = refuses 1 (length book)
-  read-fit (suc fuel) at ts f =
-      decide Result (kindMissing book at) _ _ (λ _. refuses 1 (length book))
-      (λ _. decide Result (kindUnknown book at) _ _ (λ _. refuses 2 at)
-      (λ a. decide Result (closes book at) _ _ (λ _. closed-fit at ts f)
-      (λ b. decide Result (bodyShort book at) _ _ (λ _. refuses 1 at)
-      (λ c. decide Result (overLimits book at ts) _ _ (λ _. refuses 5 at)
-      (λ d. decide Result (repeats book at ts) _ _ (λ _. refuses 4 at)
-      (λ e.
-      let kind = kindAt book at in
-      let size = sizeAt book at in
-      let long : length (bodyAt book at) ≡ size = simp (length-take, length-drop) (omega (arith, ltb-false (length book) (at + 1 + size) c)) in
-      read-fit fuel (at + 1 + size) (ts ++ (bodyAt book at ∷ []))
-      (fit-snoc ts (bodyAt book at) f
-      (rw long (bodyLength-range kind (omega (arith, eqb-false kind 0 b)) (ltb-false 68 kind a)))
-      (leb-false maxTokens (length ts) (or-nl _ _ d))
-      (rw long (ltb-false maxBodies (total ts + size) (or-nr (leb maxTokens (length ts)) _ d)))
-      e)))))))
-
 module _ (book : List ℕ) (tokens : List (List ℕ)) (read : readBook book ≡ accepted tokens) where
-  read-all : Fit tokens × (1 ≤ length tokens)
+  more : (at : ℕ) (ts : List (List ℕ)) → Taken book at ts → Fit ts → Fit (ts ++ (bodyAt book at ∷ []))
+  more at ts t f =
+      let long = opened-length book at (t .opened) in
+      fit-snoc ts (bodyAt book at) f (rw long (opened-range book at (t .opened))) (t .few) (rw long (t .small)) (t .new)
+
+  read-all : ((at : ℕ) × Fit tokens) × (1 ≤ length tokens)
   read-all =
-      read-fit book tokens (suc (length book)) 0 []
+      accepted-keeps book (λ _. Fit) more tokens read
       (record { each = λ i h. absurd (omega arith); count = omega arith; bodies = omega arith; distinct = λ i j h. absurd (omega arith) })
-      read
 
   pub accepted-some : 1 ≤ length tokens
   accepted-some = read-all .1
 
   pub accepted-fit : Fit tokens
-  accepted-fit = read-all .0
+  accepted-fit = read-all .0 .1
 
   pub accepted-setting : Setting tokens (shortestOf tokens) (longestOf tokens)
   accepted-setting = record {

@@ -174,7 +174,7 @@ builds tokens (body ∷ rest) k i t n z f e l s =
 root-link : (p : ℕ) → Link rootOnly 1 p 0 0
 root-link p = record { node = λ h. absurd (omega arith); least = λ u a b c. absurd (omega arith) }
 
-root-facts : (tokens : List (List ℕ)) → Facts tokens 0 rootOnly 1
+pub root-facts : (tokens : List (List ℕ)) → Facts tokens 0 rootOnly 1
 root-facts tokens = record {
   shape = record {
     size = omega arith;

@@ -10,7 +10,7 @@ use Rattle.rules.specs.Laws.Tests.{decide}
 use Rattle.book.specs.Book.{Verdict, Reading, accepted, refused, readBook}
 use Rattle.trie.specs.Tables.{Tables, nodes, built, Lent, written, tooShort, Sizes, Building, build}
 
-abbrev sizesOf : List (List ℕ) → Sizes
+abbrev pub sizesOf : List (List ℕ) → Sizes
 sizesOf tokens = record { nodes = length (nodes tokens); shortest = shortestOf tokens; longest = longestOf tokens }
 
 pub written-lent : (u t : Tables) → Lent (written u t) u
@@ -21,6 +21,16 @@ written-lent u t = record {
   firsts = (drop (length (u .first)) (t .first), refl);
   nexts = (drop (length (u .next)) (t .next), refl);
 }
+
+-- The answer to a reading.
+abbrev pub answerTo : Tables → Reading → Building
+answerTo t r = elim r [
+  | refused k v ↦ record { answer = refused k v; tables = t }
+  | accepted tokens ↦ elim (tooShort t tokens) [
+    | true ↦ record { answer = refused 7 (1 + total tokens); tables = t }
+    | false ↦ record { answer = accepted (sizesOf tokens); tables = written (built tokens) t }
+  ]
+]
 
 -- The book is accepted, and the tables begin with the built ones.
 pub record Made (book : List ℕ) (sizes : Sizes) (t : Tables) : Type 0 where
@@ -38,13 +48,7 @@ module _ (book : List ℕ) (lent t : Tables) (sizes : Sizes) where
       let a : _≡_ {A = Verdict Sizes} (refused k v) (accepted sizes) = ap (λ b. b .answer) e in
       absurd (let z : _≡_ {A = ℕ} 0 1 = cc in omega arith)
 
-  by-reading : (r : Reading) → readBook book ≡ r → Gives (elim r [
-    | refused k v ↦ record { answer = refused k v; tables = lent }
-    | accepted tokens ↦ elim (tooShort lent tokens) [
-      | true ↦ record { answer = refused 7 (1 + total tokens); tables = lent }
-      | false ↦ record { answer = accepted (sizesOf tokens); tables = written (built tokens) lent }
-    ]
-  ])
+  by-reading : (r : Reading) → readBook book ≡ r → Gives (answerTo lent r)
   by-reading (refused k v) e = refuses k v
   by-reading (accepted tokens) e =
       decide Gives (tooShort lent tokens) _ _ (λ _. refuses 7 (1 + total tokens))

@@ -13,14 +13,10 @@ use Rattle.book.specs.Laws.Accepted.{Fit}
 use Rattle.trie.specs.Tables.{Tables, nodes, labelOf, above, isChild, childFrom, siblingFrom, siblings, built}
 use Rattle.trie.specs.Walks.{ending}
 use Rattle.trie.specs.Laws.Growth.{insertedAll}
-use Rattle.trie.specs.Laws.Shape.{up, tag, head, sib, Link, Shape, ending-step, ending-apart}
+use Rattle.trie.specs.Laws.Shape.{alike, up, tag, head, sib, Link, Shape, ending-step, ending-apart}
 use Rattle.trie.specs.Laws.Order.{Listed}
 use Rattle.trie.specs.Laws.Build.{built-facts}
 use Rattle.trie.specs.Laws.Nodes.{number-at, token}
-
--- tables are their five lists
-alike : (t u : Tables) → t .parent ≡ u .parent → t .label ≡ u .label → t .token ≡ u .token → t .first ≡ u .first → t .next ≡ u .next → t ≡ u
-alike t u a b c d e = λ i. record { parent = a i; label = b i; token = c i; first = d i; next = e i }
 
 map-at : (f : List ℕ → ℕ) (us : List (List ℕ)) (v : ℕ) → v < length us → getD (map f us) v 0 ≡ f (getD us v [])
 map-at f [] v h = absurd (omega arith)

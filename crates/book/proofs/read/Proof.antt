@@ -1,0 +1,137 @@
+-- `read` meets its contract. The loop's invariant is `Walk`: the rest of the run from here is the whole run.
+use borrow.Author.Needs.{needs}
+use Prim.Native.Nat.{ℕ, _-_}
+use native.Mathlib.Omega.{arith}
+use mathlib.Core.List.{List}
+use mathlib.Core.Path.{_∙_}
+use lib.ListN.{length}
+use Rattle.book.specs.Laws.Taken.{Opened, opened-range}
+use Rattle.book.proofs.Reader.{Walk, begins, room, missing, unknown, closes, short, beyond, twice, onwards}
+use Rattle.book.proofs.read.Statement.{statement}
+use Rattle.book.proofs.read.Tie as tie
+
+abbrev Inv-loop : tie.InvT-loop
+Inv-loop book at₀ totals₀ at totals = Walk book at totals
+
+abbrev μ-loop : tie.MeasureT-loop
+μ-loop book at₀ totals₀ at totals = length book - at
+
+none-requires : tie.Need-none-requires Inv-loop μ-loop
+none-requires c κs = search needs
+
+loop-holds : tie.Need-loop-holds Inv-loop μ-loop
+loop-holds c = begins _ _ (c .none .ensures)
+
+returns : tie.Need-returns Inv-loop μ-loop
+returns c = missing (c .before .loop .inv) (c .if1 .taken)
+
+shared-slice-read-kind : tie.Need-shared-slice-read-kind Inv-loop μ-loop
+shared-slice-read-kind c = search needs
+
+returns-2 : tie.Need-returns-2 Inv-loop μ-loop
+returns-2 c = unknown (c .before .before .before .loop .inv) (c .before .before .if1 .left) (c .if2 .taken)
+
+finish-requires : tie.Need-finish-requires Inv-loop μ-loop
+finish-requires c κs = search needs
+
+returns-3 : tie.Need-returns-3 Inv-loop μ-loop
+returns-3 c =
+    let w = c .before .before .before .before .before .loop .inv in
+    c .finish .ensures (w .tokens) (w .amounts)
+    ∙ closes w (c .before .before .before .before .if1 .left) (c .before .before .if2 .left) (c .before .if3 .taken)
+
+body-length-requires : tie.Need-body-length-requires Inv-loop μ-loop
+body-length-requires c κs = search needs
+
+sub-if4 : tie.Need-sub-if4 Inv-loop μ-loop
+sub-if4 c = search needs
+
+sub-if4-2 : tie.Need-sub-if4-2 Inv-loop μ-loop
+sub-if4-2 c = search needs
+
+returns-4 : tie.Need-returns-4 Inv-loop μ-loop
+returns-4 c =
+    short (c .before .before .before .before .before .before .loop .inv) (c .before .before .before .before .before .if1 .left)
+    (c .before .before .before .if2 .left) (c .before .before .if3 .left) (omega (arith, c .before .body-length .ensures))
+
+-- A whole record.
+abbrev bookOf : tie.Else4 Inv-loop μ-loop → List ℕ
+bookOf c = c .before .before .before .before .before .before .before .before .before .args .book .now
+
+abbrev placeOf : tie.Else4 Inv-loop μ-loop → ℕ
+placeOf c = c .before .before .before .before .before .before .loop .at
+
+opened : (c : tie.Else4 Inv-loop μ-loop) → Opened (bookOf c) (placeOf c)
+opened c = record {
+  there = c .before .before .before .before .before .if1 .left;
+  known = c .before .before .before .if2 .left;
+  opens = c .before .before .if3 .left;
+  inside = omega (arith, c .before .body-length .ensures);
+}
+
+over-requires : tie.Need-over-requires Inv-loop μ-loop
+over-requires c κs = omega (arith, c .before .body-length .ensures, opened-range (bookOf c) (placeOf c) (opened c))
+
+returns-5 : tie.Need-returns-5 Inv-loop μ-loop
+returns-5 c =
+    let d = c .before .before in
+    beyond (d .before .before .before .before .before .before .loop .inv) (opened d) (d .before .body-length .ensures) (c .before .over .ensures)
+    (c .if5 .taken)
+
+repeated-requires : tie.Need-repeated-requires Inv-loop μ-loop
+repeated-requires c κs =
+    let d = c .before .before in omega (arith, d .before .body-length .ensures, opened-range (bookOf d) (placeOf d) (opened d), opened d .inside)
+
+returns-6 : tie.Need-returns-6 Inv-loop μ-loop
+returns-6 c =
+    let d = c .before .before .before .before in
+    twice (d .before .before .before .before .before .before .loop .inv) (opened d) (d .before .body-length .ensures)
+    (c .before .before .before .over .ensures) (c .before .repeated .ensures) (c .before .before .if5 .left) (c .if6 .taken)
+
+with-requires : tie.Need-with-requires Inv-loop μ-loop
+with-requires c κs = room _ _ _ (c .before .before .before .over .ensures) (c .before .before .if5 .left)
+
+add-at : tie.Need-add-at Inv-loop μ-loop
+add-at c =
+    let d = c .before .before .before .before .before in omega (arith, d .before .body-length .ensures, opened d .inside)
+
+add-at-2 : tie.Need-add-at-2 Inv-loop μ-loop
+add-at-2 c =
+    let d = c .before .before .before .before .before in omega (arith, d .before .body-length .ensures, opened d .inside)
+
+loop-less : tie.Need-loop-less Inv-loop μ-loop
+loop-less c = let d = c .before .before .before .before .before in omega (arith, opened d .there)
+
+loop-again : tie.Need-loop-again Inv-loop μ-loop
+loop-again c =
+    let d = c .before .before .before .before .before in
+    onwards (d .before .before .before .before .before .before .loop .inv) (opened d) (d .before .body-length .ensures)
+    (c .before .before .before .before .over .ensures) (c .before .before .repeated .ensures) (c .before .before .before .if5 .left) (c .before .if6 .left)
+    (c .with .ensures)
+
+pub read-spec : {M : Type 1} → statement M
+read-spec =
+    tie.close
+    (tie.spec
+    Inv-loop
+    μ-loop
+    none-requires
+    loop-holds
+    returns
+    shared-slice-read-kind
+    returns-2
+    finish-requires
+    returns-3
+    body-length-requires
+    sub-if4
+    sub-if4-2
+    returns-4
+    over-requires
+    returns-5
+    repeated-requires
+    returns-6
+    with-requires
+    add-at
+    add-at-2
+    loop-less
+    loop-again)

@@ -1,0 +1,76 @@
+-- The tokens of an accepted book are the bodies of its records, one record after the other; and where token number i stands.
+use Prim.Native.Nat.{ℕ, zero, suc, _+_, _-_, _≤_, _<_}
+use native.Mathlib.Omega.{arith}
+use mathlib.Core.Path.{_≡_}
+use mathlib.Core.List.{List, [], _∷_, _++_}
+use borrow.Author.Tests.{le-leb}
+use lib.ListN.{length, getD, take, drop, length-append}
+use Rattle.rules.specs.Tokens.{total}
+use Rattle.book.specs.Book.{found, accepted, maxBody, sizeAt, bodyAt, wholeAt, readBook, placeIn}
+use Rattle.book.specs.Laws.Accepted.{total-snoc}
+use Rattle.book.specs.Laws.Taken.{Opened, Taken, opened-range, opened-length, whole-is, accepted-keeps}
+
+-- The record at place `at` has the body t.
+pub record Held (book : List ℕ) (at : ℕ) (t : List ℕ) : Type 0 where
+  pub some : 1 ≤ length t
+  pub short : length t ≤ maxBody
+  pub whole : wholeAt book at ≡ length t
+  pub inside : at + 1 + length t ≤ length book
+  pub body : take (length t) (drop (at + 1) book) ≡ t
+
+-- The records from place `at` on have the bodies ts.
+abbrev pub Records : List ℕ → ℕ → List (List ℕ) → Type 0
+Records book at [] = Unit {0}
+Records book at (t ∷ ts) = Held book at t × Records book (at + 1 + length t) ts
+
+-- A record more, at the end.
+pub records-snoc : (book : List ℕ) (at : ℕ) (ts : List (List ℕ)) (t : List ℕ) (e : ℕ) → e ≡ at + length ts + total ts → Records book at ts
+    → Held book e t → Records book at (ts ++ (t ∷ []))
+records-snoc book at [] t e z r h = let z : at ≡ e = omega arith in (rw z h, tt)
+records-snoc book at (u ∷ ts) t e z r h = (r .0, records-snoc book (at + 1 + length u) ts t e (omega arith) (r .1) h)
+
+opened-held : (book : List ℕ) (at : ℕ) → Opened book at → Held book at (bodyAt book at)
+opened-held book at o =
+    let long = opened-length book at o in
+    let range = opened-range book at o in
+    record {
+      some = omega arith;
+      short = omega arith;
+      whole = rw long (whole-is book at (o .there, o .known, o .inside));
+      inside = rw long (o .inside);
+      body = rw long;
+    }
+
+-- The tokens ts have been read, up to place `at`.
+pub record Upto (book : List ℕ) (at : ℕ) (ts : List (List ℕ)) : Type 0 where
+  pub place : at ≡ length ts + total ts
+  pub records : Records book 0 ts
+
+pub upto-more : (book : List ℕ) (at : ℕ) (ts : List (List ℕ)) → Taken book at ts → Upto book at ts
+    → Upto book (at + 1 + sizeAt book at) (ts ++ (bodyAt book at ∷ []))
+upto-more book at ts t u = record {
+  place = rw (length-append, total-snoc) (omega (arith, opened-length book at (t .opened)));
+  records = records-snoc book 0 ts (bodyAt book at) at (omega arith) (u .records) (opened-held book at (t .opened));
+}
+
+-- The record after i others.
+pub records-at : (book : List ℕ) (at : ℕ) (ts : List (List ℕ)) (i e : ℕ) → e ≡ at + i + total (take i ts) → i < length ts → Records book at ts
+    → Held book e (getD ts i [])
+records-at book at [] i e z h r = absurd (omega arith)
+records-at book at (t ∷ ts) zero e z h r = let z : e ≡ at = omega arith in rw z (r .0)
+records-at book at (t ∷ ts) (suc i) e z h r = records-at book (at + 1 + length t) ts i e (omega arith) (omega arith) (r .1)
+
+module _ (book : List ℕ) (tokens : List (List ℕ)) (read : readBook book ≡ accepted tokens) where
+  pub accepted-records : Records book 0 tokens
+  accepted-records = accepted-keeps book (Upto book) (upto-more book) tokens read (record { place = omega arith; records = tt }) .0 .1 .records
+
+  -- Where `placeIn` says that token number i stands, there it stands.
+  module _ (i : ℕ) (h : 1 ≤ i) (k : i ≤ length tokens) where
+    pub accepted-place : placeIn (readBook book) i ≡ found (i + total (take (i - 1) tokens)) (length (getD tokens (i - 1) []))
+    accepted-place = rw read (cc (le-leb 1 i h, le-leb i (length tokens) k))
+
+    pub accepted-body : take (length (getD tokens (i - 1) [])) (drop (i + total (take (i - 1) tokens)) book) ≡ getD tokens (i - 1) []
+    accepted-body =
+        let p = i + total (take (i - 1) tokens) in
+        let z : p ≡ p - 1 + 1 = omega arith in
+        rw z (records-at book 0 tokens (i - 1) (p - 1) (omega arith) (omega arith) accepted-records .body)

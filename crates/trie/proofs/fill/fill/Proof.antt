@@ -1,0 +1,149 @@
+-- `fill` meets its contract: the tables hold the tokens so far, and the records left stand from here on (`Filling`).
+use Prim.Native.Nat.{_+_, _-_, _<_, _≤_}
+use native.Mathlib.Omega.{arith}
+use mathlib.Core.Path.{refl, _∙_}
+use borrow.Author.Needs.{needs}
+use lib.ListN.{length, length-set}
+use Rattle.trie.specs.Tables.{Tables}
+use Rattle.trie.specs.Answers.{tables}
+use Rattle.trie.specs.InPlace.{Room, Ready}
+use Rattle.trie.specs.Laws.Over.{Kept}
+use Rattle.trie.specs.Laws.Fill.{Filling, rooted, fill-room, fill-kept, fill-first, fill-ready, fill-on, fill-done}
+use Rattle.trie.proofs.fill.fill.Statement.{statement}
+use Rattle.trie.proofs.fill.fill.Tie as tie
+
+abbrev Inv-loop : tie.InvT-loop
+Inv-loop book parent₀ label₀ token₀ first₀ next₀ many count₀ at₀ number₀ parent label token first next count at number =
+    Filling book (tables parent₀ label₀ token₀ first₀ next₀) many (tables parent label token first next) count at number
+
+abbrev μ-loop : tie.MeasureT-loop
+μ-loop book parent₀ label₀ token₀ first₀ next₀ many count₀ at₀ number₀ parent label token first next count at number =
+    many + 1 - number
+
+-- the tables as lent, and at the loop
+abbrev lent : tie.Start Inv-loop μ-loop → Tables
+lent c = tables (c .args .parent .now) (c .args .label .now) (c .args .token .now) (c .args .first .now) (c .args .next .now)
+
+abbrev start : tie.At-loop Inv-loop μ-loop → tie.Start Inv-loop μ-loop
+start c = c .before .before .before .before .before .before .before
+
+abbrev held : tie.At-loop Inv-loop μ-loop → Tables
+held c = tables (c .loop .parent) (c .loop .label) (c .loop .token) (c .loop .first) (c .loop .next)
+
+room : (c : tie.Start Inv-loop μ-loop) → Room (lent c) 1
+room c = fill-room (c .args .book .now) (lent c) (c .args .many) (c .pre)
+
+-- the next record is whole, and there is room for its body
+ready : (c : tie.After-body-at Inv-loop μ-loop) → let o = c .before .before .loop in let b = start (c .before .before) in
+    Ready (held (c .before .before)) (o .count) 0 (c .body-at .result)
+    × (o .at + 1 + c .body-at .result ≤ length (b .args .book .now)) × (o .number < 65536)
+ready c =
+    let o = c .before .before .loop in
+    let b = start (c .before .before) in
+    fill-ready (b .args .book .now) (rooted (lent b)) (b .args .many) (held (c .before .before)) (o .count) (o .at) (o .number) (o .inv)
+    (c .before .loop-test .taken) (c .body-at .result) (c .body-at .ensures)
+
+kept : (c : tie.At-loop Inv-loop μ-loop) → Kept (rooted (lent (start c))) (held c)
+kept c =
+    let b = start c in
+    fill-kept (b .args .book .now) (rooted (lent b)) (b .args .many) (held c) (c .loop .count) (c .loop .at) (c .loop .number) (c .loop .inv)
+
+-- where a turn's record was found, from its end
+abbrev turn : tie.After-slice-known10 Inv-loop μ-loop → tie.After-body-at Inv-loop μ-loop
+turn c =
+    c .before .before .before .before .before .before .before .before .before .before .before .before .before .before .before .before
+
+slice-write-parent : tie.Need-slice-write-parent Inv-loop μ-loop
+slice-write-parent c = room (c .before .before .before .before .before .before) .parents
+
+slice-write-label : tie.Need-slice-write-label Inv-loop μ-loop
+slice-write-label c = room (c .before .before .before .before .before .before) .labels
+
+slice-write-token : tie.Need-slice-write-token Inv-loop μ-loop
+slice-write-token c = room (c .before .before .before .before .before .before) .tokens
+
+slice-write-first : tie.Need-slice-write-first Inv-loop μ-loop
+slice-write-first c = room (c .before .before .before .before .before .before) .firsts
+
+slice-write-next : tie.Need-slice-write-next Inv-loop μ-loop
+slice-write-next c = room (c .before .before .before .before .before .before) .nexts
+
+loop-holds : tie.Need-loop-holds Inv-loop μ-loop
+loop-holds c = let b = c .before .before .before .before .before .before in
+    fill-first (b .args .book .now) (lent b) (b .args .many) (b .pre)
+
+add-insert : tie.Need-add-insert Inv-loop μ-loop
+add-insert c = omega (arith, ready c .1, start (c .before .before) .good)
+
+insert-requires : tie.Need-insert-requires Inv-loop μ-loop
+insert-requires c κs = ready (c .before .before .before .before .before)
+
+add-at : tie.Need-add-at Inv-loop μ-loop
+add-at c = let d = turn c in omega (arith, ready d .1, start (d .before .before) .good)
+
+add-at-2 : tie.Need-add-at-2 Inv-loop μ-loop
+add-at-2 c = let d = turn c in omega (arith, ready d .1, start (d .before .before) .good)
+
+add-number : tie.Need-add-number Inv-loop μ-loop
+add-number c = omega (arith, ready (turn c) .2)
+
+loop-less : tie.Need-loop-less Inv-loop μ-loop
+loop-less c = omega (arith, turn c .before .loop-test .taken)
+
+loop-again : tie.Need-loop-again Inv-loop μ-loop
+loop-again c = let a = c .before .before .before .before .before .before .before .before .before .before in
+    let d = turn c in
+    let o = d .before .before .loop in
+    let b = start (d .before .before) in
+    let l = a .insert .last .1 .1 .1 in
+    fill-on (b .args .book .now) (rooted (lent b)) (b .args .many) (held (d .before .before)) (o .count) (o .at) (o .number) (o .inv)
+    (d .before .loop-test .taken) (d .body-at .result) (d .body-at .ensures)
+    (record { tables = tables (l .0) (l .1 .0) (l .1 .1 .0) (l .1 .1 .1 .0) (l .1 .1 .1 .1 .0); count = a .insert .result }) (a .insert .ensures)
+
+same-length : tie.Need-same-length Inv-loop μ-loop
+same-length c = kept (c .before) .parents ∙ length-set (start (c .before) .args .parent .now) 0 0
+
+same-length-2 : tie.Need-same-length-2 Inv-loop μ-loop
+same-length-2 c = kept (c .before) .labels ∙ length-set (start (c .before) .args .label .now) 0 0
+
+same-length-3 : tie.Need-same-length-3 Inv-loop μ-loop
+same-length-3 c = kept (c .before) .tokens ∙ length-set (start (c .before) .args .token .now) 0 0
+
+same-length-4 : tie.Need-same-length-4 Inv-loop μ-loop
+same-length-4 c = kept (c .before) .firsts ∙ length-set (start (c .before) .args .first .now) 0 0
+
+same-length-5 : tie.Need-same-length-5 Inv-loop μ-loop
+same-length-5 c = kept (c .before) .nexts ∙ length-set (start (c .before) .args .next .now) 0 0
+
+returns : tie.Need-returns Inv-loop μ-loop
+returns c = let b = start (c .before) in
+    let o = c .before .loop in
+    fill-done (b .args .book .now) (rooted (lent b)) (b .args .many) (held (c .before)) (o .count) (o .at) (o .number) (o .inv)
+    (c .loop-test .left) (lent b) refl (room b)
+
+pub fill-spec : {M : Type 1} → statement M
+fill-spec =
+    tie.close
+    (tie.spec
+    Inv-loop
+    μ-loop
+    slice-write-parent
+    slice-write-label
+    slice-write-token
+    slice-write-first
+    slice-write-next
+    loop-holds
+    (λ c κs. search needs)
+    add-insert
+    insert-requires
+    add-at
+    add-at-2
+    add-number
+    loop-less
+    loop-again
+    same-length
+    same-length-2
+    same-length-3
+    same-length-4
+    same-length-5
+    returns)

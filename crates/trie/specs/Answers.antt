@@ -1,0 +1,42 @@
+-- What the calls answer, as the definitions have it: lent lists as tables, a child, a test, a building.
+use Prim.Native.Nat.{ℕ}
+use mathlib.Core.Bool.{Bool, true, false, _&&_}
+use mathlib.Core.List.{List}
+use mathlib.Core.Option.{Option, some, none}
+use lib.Dec.{leb, ltb, eqb}
+use lib.ListN.{getD}
+use Rattle.book.specs.Book.{Verdict, accepted, refused}
+use Rattle.book.specs.Answers.{refusalOf}
+use Rattle.trie.specs.Tables.{Tables, Sizes}
+use Rattle.trie.specs.Broken.{rootSound, links, maxNumber}
+use Rattle.trie.specs.declared.Child.{Child}
+use Rattle.trie.specs.declared.Child.the-variants.{At, Absent}
+use Rattle.trie.specs.declared.Tested.{Tested}
+use Rattle.trie.specs.declared.Tested.the-variants.{Sound, Breaks}
+use Rattle.trie.specs.declared.Building.{Building}
+use Rattle.trie.specs.declared.Building.the-variants.{Made, Unread, TooShort}
+
+-- five lent lists as tables
+abbrev pub tables : List ℕ → List ℕ → List ℕ → List ℕ → List ℕ → Tables
+tables parent label token first next = record { parent = parent; label = label; token = token; first = first; next = next }
+
+abbrev pub childOf : Child → Option ℕ
+childOf (At v) = some v
+childOf Absent = none
+
+abbrev pub testedOf : Tested → Option ℕ
+testedOf Sound = none
+testedOf (Breaks v) = some v
+
+-- the tests of node v but that of its depth
+abbrev pub ownSound : Tables → ℕ → ℕ → Bool
+ownSound t count v =
+    links t count v && elim (eqb v 0) [
+      | true ↦ rootSound t
+      | false ↦ ltb (getD (t .parent) v 0) v && leb (getD (t .token) v 0) maxNumber
+    ]
+
+abbrev pub answerOf : Building → Verdict Sizes
+answerOf (Made s) = accepted (record { nodes = s .nodes; shortest = s .shortest; longest = s .longest })
+answerOf (Unread why) = refused (refusalOf why .0) (refusalOf why .1)
+answerOf (TooShort room) = refused 7 room

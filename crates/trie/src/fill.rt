@@ -1,0 +1,58 @@
+// All tokens of an accepted book into lent tables.
+ghost use mathlib.Core.Path.{_≡_};
+ghost use mathlib.Core.List.{List};
+ghost use Prim.Native.Nat.{ℕ};
+ghost use Rattle.book.specs.Book.{readBook, accepted};
+ghost use Rattle.trie.specs.Answers.{tables};
+ghost use Rattle.trie.specs.InPlace.{filled};
+ghost use Rattle.trie.specs.Laws.Fill.{Fillable};
+use crate::insert::insert;
+
+// The root, and then the book's `many` tokens in order. The number of nodes.
+pub fn fill(
+    book: &[u8],
+    parent: &mut [u16],
+    label: &mut [u8],
+    token: &mut [u16],
+    first: &mut [u16],
+    next: &mut [u16],
+    many: usize,
+) -> usize
+    requires { ⌜ Fillable (now book) (tables (now parent) (now label) (now token) (now first) (now next)) many ⌝ }
+    ensures { λ r. ⌜
+        ((ts : List (List ℕ)) → readBook (now (book .entry)) ≡ accepted ts
+        → record {
+          tables = tables (now (parent .exit)) (now (label .exit)) (now (token .exit)) (now (first .exit)) (now (next .exit));
+          count = r;
+        }
+        ≡ filled ts
+        (tables (now (parent .entry)) (now (label .entry)) (now (token .entry)) (now (first .entry)) (now (next .entry))))
+        ⌝ }
+{
+    parent[0] = 0;
+    label[0] = 0;
+    token[0] = 0;
+    first[0] = 0;
+    next[0] = 0;
+    let mut count = 1;
+    let mut at = 0;
+    let mut number = 1;
+    while number <= many {
+        let len = book::body_at(book, at);
+        count = insert(
+            book,
+            at + 1,
+            len,
+            parent,
+            label,
+            token,
+            first,
+            next,
+            count,
+            number,
+        );
+        at = at + 1 + len;
+        number += 1;
+    }
+    count
+}
