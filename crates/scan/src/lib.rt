@@ -1,4 +1,24 @@
-// The sweep by single bytes: the scan state, and what its calls are made of.
+// The sweep by single bytes: the scan state, starting, and the two calls that step it.
+
+mod judge;
+mod ranges;
+mod shift;
+mod spell;
+mod steps;
+mod stretches;
+
+ghost use mathlib.Core.Path.{_≡_};
+ghost use Rattle.trie.specs.Answers.{tables};
+ghost use Rattle.scan.specs.Start.{started, start};
+ghost use Rattle.scan.specs.Calls.{counted, carryOn, supply};
+ghost use Rattle.scan.specs.Results.{opened, startedOf, steppedOf};
+use book::Book;
+use judge::Judged;
+use judge::judge;
+use ranges::SUPPLIED;
+use steps::Found;
+use steps::settle;
+use steps::take;
 
 // A remembered stretch: the places from left up to right, right not included; its bytes are the ending of its node. A slot that
 // is not in use holds zeros.
@@ -20,4 +40,144 @@ pub struct Scan {
     pub due: bool,
     pub stretches: [Stretch; 5],
     pub supplied: usize,
+}
+
+// Whether starting went well, or refusal 8 with its value.
+pub enum Opening {
+    Ready,
+    TooLong(usize),
+}
+
+// The state to step from: where starting is refused, one that every step refuses.
+pub struct Started {
+    pub state: Scan,
+    pub opening: Opening,
+}
+
+// What a step answers: a place to fetch, a hit (where it ends, and its token), done, or refusal 9 with its value, 10 or 11.
+pub enum Answer {
+    Fetch(usize),
+    Hit(usize, usize),
+    Done,
+    Broken(usize),
+    OutOfRange,
+    OutOfTurn,
+}
+
+// The next state, and what the step answers.
+pub struct Stepped {
+    pub state: Scan,
+    pub answer: Answer,
+}
+
+// A state that has not stepped.
+fn fresh(n: usize, shortest: usize, nodes: usize) -> Scan
+    ensures { λ r. ⌜ r ≡ started n shortest nodes ⌝ }
+{
+    Scan {
+        image: n,
+        shortest,
+        count: nodes,
+        boundary: shortest,
+        node: 0,
+        depth: 0,
+        due: false,
+        stretches: [Stretch {
+            left: 0,
+            right: 0,
+            node: 0,
+        }; 5],
+        supplied: 0,
+    }
+}
+
+// The state with a byte more supplied, and none due. The count stops, so that a long sweep stays in range.
+fn count_byte(scan: Scan) -> Scan
+    ensures { λ r. ⌜ r ≡ counted scan ⌝ }
+{
+    let mut out = scan;
+    out.due = false;
+    if scan.supplied < SUPPLIED {
+        out.supplied = scan.supplied + 1;
+        return out;
+    }
+    out.supplied = SUPPLIED;
+    out
+}
+
+impl Scan {
+    // A sweep of n bytes, with the shortest token's length and the number of nodes.
+    pub fn start(n: usize, shortest: usize, nodes: usize) -> Started
+        ensures { λ r. ⌜ startedOf r ≡ opened (start n shortest nodes) ⌝ }
+    {
+        if Book::IMAGE < n {
+            let state = fresh(0, 0, 0);
+            return Started {
+                state,
+                opening: Opening::TooLong(Book::IMAGE),
+            };
+        }
+        let state = fresh(n, shortest, nodes);
+        Started {
+            state,
+            opening: Opening::Ready,
+        }
+    }
+
+    // A step while no byte is due.
+    pub fn carry_on(
+        self,
+        parent: &[u16],
+        label: &[u8],
+        token: &[u16],
+        first: &[u16],
+        next: &[u16],
+    ) -> Stepped
+        ensures { λ r.
+            let t = tables (now (parent .entry)) (now (label .entry)) (now (token .entry)) (now (first .entry)) (now (next .entry)) in
+            ⌜ steppedOf r ≡ carryOn t self ⌝ }
+    {
+        match judge(self, parent, label, token, first, next, false) {
+            Judged::Refused(answer) => Stepped {
+                state: self,
+                answer,
+            },
+            Judged::Admitted => settle(self, parent, label, token, first, next),
+        }
+    }
+
+    // A step with the byte that is due.
+    pub fn supply(
+        self,
+        parent: &[u16],
+        label: &[u8],
+        token: &[u16],
+        first: &[u16],
+        next: &[u16],
+        byte: u8,
+    ) -> Stepped
+        ensures { λ r.
+            let t = tables (now (parent .entry)) (now (label .entry)) (now (token .entry)) (now (first .entry)) (now (next .entry)) in
+            ⌜ steppedOf r ≡ supply t self byte ⌝ }
+    {
+        match judge(self, parent, label, token, first, next, true) {
+            Judged::Refused(answer) => Stepped {
+                state: self,
+                answer,
+            },
+            Judged::Admitted => {
+                let scan = count_byte(self);
+                let taken = take(scan, parent, label, token, first, next, byte);
+                let state = taken.state;
+                let found = taken.found;
+                match found {
+                    Found::On => settle(state, parent, label, token, first, next),
+                    Found::Hit(end, number) => Stepped {
+                        state,
+                        answer: Answer::Hit(end, number),
+                    },
+                }
+            }
+        }
+    }
 }

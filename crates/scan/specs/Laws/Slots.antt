@@ -1,7 +1,7 @@
 -- Stretches that are laid into slots and read again are the same.
 use Prim.Native.Nat.{ℕ, zero, suc, _≤_, _<_}
 use native.Mathlib.Omega.{arith}
-use mathlib.Core.Path.{_≡_, refl}
+use mathlib.Core.Path.{_≡_, refl, ap, _∙_}
 use mathlib.Core.Bool.{Bool, true, false, _&&_, not}
 use mathlib.Core.List.{List, [], _∷_}
 use borrow.Author.Tests.{eq-eqb, eqb-true, ne-eqb}
@@ -10,8 +10,14 @@ use lib.ListN.{length}
 use Rattle.rules.specs.Rules.{Stretch}
 use Rattle.rules.specs.Laws.Tests.{passed}
 use Rattle.rules.specs.Laws.All.{All}
+use Rattle.scan.specs.declared.Scan.{Scan}
 use Rattle.scan.specs.declared.Stretch.{Stretch as Slot}
-use Rattle.scan.specs.State.{slotOf, inUse, used, laid, sameSlots}
+use Rattle.scan.specs.State.{slotOf, inUse, used, laid, maxStretches, sameSlots, slotsOk}
+
+pub laid-length : (k : ℕ) (ms : List (Stretch ℕ)) → length (laid k ms) ≡ k
+laid-length zero ms = refl
+laid-length (suc k) [] = cc (laid-length k [])
+laid-length (suc k) (m ∷ ms) = cc (laid-length k ms)
 
 -- not all zeros
 abbrev pub Real : Stretch ℕ → Type 0
@@ -49,4 +55,12 @@ slots-same (p ∷ ps) (q ∷ qs) h =
     let r = eqb-true (p .right) (q .right) (t 1) in
     let n = eqb-true (p .node) (q .node) (t 2) in
     let here : stored (p .left) (p .right) (p .node) ≡ stored (q .left) (q .right) (q .node) = cc in
-    cc (here, slots-same ps qs (t 3))
+    cc (slots-same ps qs (t 3))
+
+-- The slots of a state are five, and hold what is in use.
+module _ (s : Scan) (h : slotsOk s ≡ true) where
+  pub slots-laid : s .stretches ≡ laid maxStretches (used (s .stretches))
+  slots-laid = slots-same (s .stretches) (laid maxStretches (used (s .stretches))) h
+
+  pub slots-five : length (s .stretches) ≡ maxStretches
+  slots-five = ap length slots-laid ∙ laid-length maxStretches (used (s .stretches))

@@ -1,0 +1,14 @@
+-- `covered` meets its contract: each way out knows its first test.
+use borrow.Author.Tests.{le-leb, lt-leb}
+use Rattle.scan.proofs.Tested.{first-holds, first-fails}
+use Rattle.scan.proofs.ranges.covered.Statement.{statement}
+use Rattle.scan.proofs.ranges.covered.Tie as tie
+
+returns : tie.Need-returns
+returns c = first-holds _ _ (le-leb _ _ (c .before .if1 .taken))
+
+returns-2 : tie.Need-returns-2
+returns-2 c = first-fails _ _ (lt-leb _ _ (c .if1 .left))
+
+pub covered-spec : {M : Type 1} → statement M
+covered-spec = tie.close (tie.spec returns returns-2)

@@ -1,0 +1,169 @@
+-- `in_range` meets its contract: each way out knows its tests, in the order of the definition.
+use Prim.Native.Nat.{_≤_}
+use mathlib.Core.Path.{_≡_, refl, sym, _∙_}
+use mathlib.Core.Bool.{true}
+use mathlib.Core.List.{[]}
+use mathlib.Core.Logic.{⊎-elim}
+use native.Mathlib.Omega.{arith}
+use borrow.Author.Needs.{needs}
+use borrow.Author.Tests.{leb-true, ltb-true, not-true, not-false}
+use Rattle.rules.specs.Laws.Tests.{and-l}
+use Rattle.book.specs.Book.{maxImage}
+use Rattle.trie.specs.Answers.{tables}
+use Rattle.scan.specs.State.{maxNodes, farthest, maxSupplied, countOk, imageOk, shortestOk, nodeOk, boundaryOk, suppliedOk}
+use Rattle.scan.specs.Ways.{paths}
+use Rattle.scan.proofs.Depths.{passing-out}
+use Rattle.scan.proofs.Tested.{leb-not, range-out, range-tests}
+use Rattle.scan.proofs.ranges.in_range.Statement.{statement}
+use Rattle.scan.proofs.ranges.in_range.Tie as tie
+
+-- The places where two, four and six tests have passed, each from the next.
+abbrev start : tie.Else2 → tie.Start
+start c = c .before .before .before .before .before .before
+
+abbrev second : tie.Else4 → tie.Else2
+second c = c .before .before .before .before
+
+abbrev fourth : tie.Else6 → tie.Else4
+fourth c = c .before .before .before .before .before
+
+two : (c : tie.Else2) → (countOk (start c .args .scan) ≡ true) × (imageOk (start c .args .scan) ≡ true)
+two c = (
+  sym (c .before .before .before .between .ensures) ∙ not-false _ (c .before .before .if1 .left),
+  leb-not (start c .args .scan .image) maxImage (c .if2 .left),
+)
+
+four : (c : tie.Else4)
+    → (shortestOk (start (second c) .args .scan) ≡ true)
+    × (nodeOk (paths (start (second c) .args .parent .now) []) (start (second c) .args .scan) ≡ true)
+four c = (
+  sym (c .before .before .before .between2 .ensures) ∙ not-false _ (c .before .before .if3 .left),
+  sym (c .before .lies .ensures) ∙ not-false _ (c .if4 .left),
+)
+
+six : (c : tie.Else6)
+    → (boundaryOk (start (second (fourth c)) .args .scan) ≡ true) × (suppliedOk (start (second (fourth c)) .args .scan) ≡ true)
+six c = (
+  sym (c .before .before .before .between3 .ensures) ∙ not-false _ (c .before .before .if5 .left),
+  leb-not (start (second (fourth c)) .args .scan .supplied) maxSupplied (c .if6 .left),
+)
+
+some-node : (c : tie.Else2) → 1 ≤ start c .args .scan .count
+some-node c = range-out 1 (start c .args .scan .count) maxNodes (two c .0) .0
+
+between-requires : tie.Need-between-requires
+between-requires c κs = search needs
+
+returns : tie.Need-returns
+returns c =
+    λ label token next.
+    let a = c .before .before .before .before .args in
+    let t = tables (a .parent .now) label token (a .first .now) next in
+    let count = c .before .between .ensures in
+    ⊎-elim (λ w. sym (range-tests t (a .scan) (sym count ∙ not-true _ (w .taken)) refl refl refl refl refl refl refl))
+    (λ w. sym (range-tests t (a .scan) (sym count ∙ not-false _ (w .0 .left)) (leb-not (a .scan .image) maxImage (w .2 .taken))
+    refl refl refl refl refl refl))
+    (c .if1 .came)
+
+between-requires-2 : tie.Need-between-requires-2
+between-requires-2 c κs = search needs
+
+lies-requires : tie.Need-lies-requires
+lies-requires c κs = passing-out (start (c .before .before) .pre) (some-node (c .before .before)) .0
+
+returns-2 : tie.Need-returns-2
+returns-2 c =
+    λ label token next.
+    let c2 = c .before .before in
+    let a = start c2 .args in
+    let t = tables (a .parent .now) label token (a .first .now) next in
+    let shortest = c .before .between2 .ensures in
+    ⊎-elim (λ w. sym (range-tests t (a .scan) (two c2 .0) (two c2 .1)
+    (sym shortest ∙ not-true _ (w .taken)) refl refl refl refl refl))
+    (λ w. sym (range-tests t (a .scan) (two c2 .0) (two c2 .1)
+    (sym shortest ∙ not-false _ (w .0 .left)) (sym (w .1 .ensures) ∙ not-true _ (w .2 .taken)) refl refl refl refl))
+    (c .if3 .came)
+
+add-between : tie.Need-add-between
+add-between c =
+    let c2 = second (c .before) in
+    omega (arith, leb-true (start c2 .args .scan .image) maxImage (two c2 .1))
+
+between-requires-3 : tie.Need-between-requires-3
+between-requires-3 c κs = search needs
+
+returns-3 : tie.Need-returns-3
+returns-3 c =
+    λ label token next.
+    let c4 = c .before .before .before in
+    let c2 = second c4 in
+    let a = start c2 .args in
+    let t = tables (a .parent .now) label token (a .first .now) next in
+    let boundary = c .before .between3 .ensures in
+    ⊎-elim (λ w. sym (range-tests t (a .scan) (two c2 .0) (two c2 .1) (four c4 .0) (four c4 .1)
+    (sym boundary ∙ not-true _ (w .taken)) refl refl refl))
+    (λ w. sym (range-tests t (a .scan) (two c2 .0) (two c2 .1) (four c4 .0) (four c4 .1)
+    (sym boundary ∙ not-false _ (w .0 .left)) (leb-not (a .scan .supplied) maxSupplied (w .2 .taken)) refl refl))
+    (c .if5 .came)
+
+stretches-ok-requires : tie.Need-stretches-ok-requires
+stretches-ok-requires c κs =
+    let c2 = second (fourth c) in
+    let s = start c2 .args .scan in (
+      passing-out (start c2 .pre) (some-node c2) .0,
+      omega (
+        arith,
+        range-out (s .depth) (s .boundary) (farthest (s .image)) (six c .0) .1,
+        leb-true (s .image) maxImage (two c2 .1),
+      ),
+    )
+
+due-ok-requires : tie.Need-due-ok-requires
+due-ok-requires c κs =
+    let c6 = c .before .before in
+    let c4 = fourth c6 in
+    let c2 = second c4 in
+    let s = start c2 .args .scan in (
+      omega (arith, ltb-true (s .node) (s .count) (and-l _ _ (four c4 .1)), passing-out (start c2 .pre) (some-node c2) .1),
+      range-out (s .depth) (s .boundary) (farthest (s .image)) (six c6 .0) .0,
+    )
+
+returns-4 : tie.Need-returns-4
+returns-4 c =
+    λ label token next.
+    let c6 = c .before .before .before in
+    let c4 = fourth c6 in
+    let c2 = second c4 in
+    let a = start c2 .args in
+    let t = tables (a .parent .now) label token (a .first .now) next in
+    sym (range-tests t (a .scan) (two c2 .0) (two c2 .1) (four c4 .0) (four c4 .1) (six c6 .0) (six c6 .1)
+    (sym (c .before .before .stretches-ok .ensures) ∙ c .before .if7 .taken) (sym (c .due-ok .ensures)))
+
+returns-5 : tie.Need-returns-5
+returns-5 c =
+    λ label token next.
+    let c6 = c .before .before in
+    let c4 = fourth c6 in
+    let c2 = second c4 in
+    let a = start c2 .args in
+    let t = tables (a .parent .now) label token (a .first .now) next in
+    c .if7 .left
+    ∙ sym (range-tests t (a .scan) (two c2 .0) (two c2 .1) (four c4 .0) (four c4 .1) (six c6 .0) (six c6 .1)
+    (sym (c .before .stretches-ok .ensures) ∙ c .if7 .left) refl)
+
+pub in-range-spec : {M : Type 1} → statement M
+in-range-spec =
+    tie.close
+    (tie.spec
+    between-requires
+    returns
+    between-requires-2
+    lies-requires
+    returns-2
+    add-between
+    between-requires-3
+    returns-3
+    stretches-ok-requires
+    due-ok-requires
+    returns-4
+    returns-5)

@@ -1,0 +1,57 @@
+-- What the code of a step asks of a state, and what it answers, as the rules have it.
+use Prim.Native.Nat.{ℕ}
+use mathlib.Core.Path.{_≡_}
+use mathlib.Core.Bool.{true}
+use mathlib.Core.List.{List}
+use Rattle.rules.specs.Rules.{Step, Next, finished, wants, goes, place, recall, look, next}
+use Rattle.trie.specs.Tables.{Tables}
+use Rattle.trie.specs.Answers.{tables}
+use Rattle.scan.specs.declared.Scan.{Scan}
+use Rattle.scan.specs.declared.steps.Found.{Found}
+use Rattle.scan.specs.declared.steps.Found.the-variants.{On, Hit}
+use Rattle.scan.specs.declared.steps.Taken.{Taken}
+use Rattle.scan.specs.declared.steps.Move.{Move}
+use Rattle.scan.specs.declared.steps.Move.the-variants.{Finished, Wants, On as Goes, Hit as Hits}
+use Rattle.scan.specs.declared.steps.Advanced.{Advanced}
+use Rattle.scan.specs.State.{configOf, treeOf, slotsOk}
+use Rattle.scan.specs.Calls.{Hit as Heard, noHit, hitOf, hitIn, moved}
+use Rattle.scan.specs.Laws.Within.{Ready, Within}
+
+-- A state to step from, over tables that pass refusal 9.
+pub record Steady (t : Tables) (s : Scan) : Type 0 where
+  pub ready : Ready t (s .count) (s .image) (s .shortest)
+  pub within : Within t (s .count) (s .image) (configOf s)
+  pub slots : slotsOk s ≡ true
+
+-- A round ends without a look at the chains.
+pub record Ending (parent label token : List ℕ) (s : Scan) : Type 0 where
+  pub first : List ℕ
+  pub next : List ℕ
+  pub steady : Steady (tables parent label token first next) s
+
+-- The hit of a step.
+abbrev pub foundOf : Heard → Found
+foundOf noHit = On
+foundOf (hitOf e i) = Hit e i
+
+-- Rule 3 from a state.
+abbrev pub takenBy : Scan → Step ℕ → Taken
+takenBy s w = record { state = moved s (w .config) (s .due); found = foundOf (hitIn (w .events)) }
+
+abbrev pub moveOf : Heard → Move
+moveOf noHit = Goes
+moveOf (hitOf e i) = Hits e i
+
+-- What comes next from a state.
+abbrev pub advancedBy : Scan → Next ℕ → Advanced
+advancedBy s finished = record { state = s; step = Finished }
+advancedBy s (wants at) = record { state = s; step = Wants at }
+advancedBy s (goes w) = record { state = moved s (w .config) (s .due); step = moveOf (hitIn (w .events)) }
+
+abbrev pub lookedIn : Tables → Scan → Advanced
+lookedIn t s =
+    let c = configOf s in
+    advancedBy s (look (treeOf t s) c (recall (treeOf t s) (c .stretches) (place c)))
+
+abbrev pub advancedIn : Tables → Scan → Advanced
+advancedIn t s = advancedBy s (next (treeOf t s) (s .image) (configOf s))

@@ -1,0 +1,41 @@
+-- What a function asks of tables that it climbs: the way up from a node ends at the root. Tables that pass refusal 9 have it.
+use Prim.Native.Nat.{ℕ, _≤_, _<_}
+use mathlib.Core.Path.{_≡_}
+use mathlib.Core.List.{List, []}
+use lib.ListN.{length, getD}
+use Rattle.book.specs.Book.{maxBody}
+use Rattle.trie.specs.Tables.{Tables}
+use Rattle.trie.specs.Walks.{depth}
+use Rattle.trie.specs.Answers.{tables}
+
+-- as far as endings go
+abbrev pub paths : List ℕ → List ℕ → Tables
+paths parent label = tables parent label [] [] []
+
+-- Parents of nodes below the count are smaller nodes; the root's is itself.
+pub record Rises (parent : List ℕ) (count : ℕ) : Type 0 where
+  pub size : 0 < count
+  pub held : count ≤ length parent
+  pub root : getD parent 0 0 ≡ 0
+  pub ups : (v : ℕ) → 0 < v → v < count → getD parent v 0 < v
+
+-- A node to climb from.
+pub record Climbs (parent : List ℕ) (node : ℕ) : Type 0 where
+  pub count : ℕ
+  pub rises : Rises parent count
+  pub below : node < count
+
+-- Nodes below the count with endings to spell, and their token numbers.
+pub record Readable (parent label token : List ℕ) (count : ℕ) : Type 0 where
+  pub rises : Rises parent count
+  pub labels : count ≤ length label
+  pub tokens : count ≤ length token
+  pub deep : (v : ℕ) → v < count → depth (paths parent label) v ≤ maxBody
+
+-- A node with an ending to spell.
+pub record Spells (parent label : List ℕ) (node : ℕ) : Type 0 where
+  pub count : ℕ
+  pub rises : Rises parent count
+  pub below : node < count
+  pub labels : count ≤ length label
+  pub deep : depth (paths parent label) node ≤ maxBody

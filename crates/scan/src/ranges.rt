@@ -1,0 +1,165 @@
+// Whether a state is in its ranges: the tests of refusal 10, over tables that pass refusal 9.
+
+use crate::Scan;
+use crate::Stretch;
+ghost use Prim.Native.Nat.{ℕ, _≤_, _<_};
+ghost use mathlib.Core.Path.{_≡_};
+ghost use mathlib.Core.Bool.{_&&_};
+ghost use mathlib.Core.List.{List, []};
+ghost use lib.Dec.{leb, ltb, eqb};
+ghost use lib.ListN.{length};
+ghost use Rattle.rules.specs.Lists.{any};
+ghost use Rattle.book.specs.Book.{maxImage};
+ghost use Rattle.trie.specs.Walks.{depth};
+ghost use Rattle.trie.specs.Answers.{tables};
+ghost use Rattle.scan.specs.State.{stretchOf, inUse, used, farthest, stretchOk, stretchesOk, dueOk, inRange};
+ghost use Rattle.scan.specs.Ways.{paths, Rises, Climbs};
+ghost use Rattle.scan.specs.Ranges.{covers, Passing};
+
+// The ends of the ranges: of the node count, N, S, b past the end of the image, and the bytes supplied.
+const NODES: usize = 16385;
+
+const IMAGE: usize = 16777216;
+
+const SHORTEST: usize = 1024;
+
+const PAST: usize = 1024;
+
+pub const SUPPLIED: usize = 1000000000;
+
+// Whether x lies in a range, both ends included.
+fn between(low: usize, x: usize, high: usize) -> bool
+    ensures { λ r. ⌜ r ≡ (leb low x && leb x high) ⌝ }
+{
+    low <= x && x <= high
+}
+
+// How deep a node lies, by climbing to the root.
+fn climbed(parent: &[u16], node: usize) -> usize
+    requires { ⌜ Climbs (now parent) node ⌝ }
+    ensures { λ r. ⌜ r ≡ depth (paths (now (parent .entry)) []) node ⌝ }
+{
+    let mut at = node;
+    let mut n = 0;
+    while at != 0 {
+        at = parent[at] as usize;
+        n += 1;
+    }
+    n
+}
+
+// Whether the node is below the count and so deep. Only such a node is climbed from.
+fn lies(parent: &[u16], count: usize, node: usize, deep: usize) -> bool
+    requires { ⌜ Rises (now parent) count ⌝ }
+    ensures { λ r. ⌜ r ≡ (ltb node count && eqb (depth (paths (now (parent .entry)) []) node) deep) ⌝ }
+{
+    node < count && climbed(parent, node) == deep
+}
+
+// Whether the slot holds a stretch.
+fn in_use(m: Stretch) -> bool
+    ensures { λ r. ⌜ r ≡ inUse m ⌝ }
+{
+    if m.left != 0 || m.right != 0 {
+        return true;
+    }
+    m.node != 0
+}
+
+// Whether a stretch is in range. The order of the tests keeps each difference and product within its type.
+fn stretch_ok(parent: &[u16], scan: Scan, m: Stretch) -> bool
+    requires { ⌜ Rises (now parent) (scan .count) ⌝ }
+    requires { ⌜ scan .boundary ≤ farthest maxImage ⌝ }
+    ensures { λ r. ⌜ r ≡ stretchOk (paths (now (parent .entry)) []) scan (stretchOf m) ⌝ }
+{
+    if m.left >= m.right || m.right > scan.image {
+        return false;
+    }
+    let long = m.right - m.left;
+    if m.right >= scan.boundary || !lies(parent, scan.count, m.node, long) {
+        return false;
+    }
+    4 * (scan.boundary - m.right) <= long
+}
+
+// Whether the slots in use come first, are in range and rise, and the others hold zeros.
+fn stretches_ok(parent: &[u16], scan: Scan) -> bool
+    requires { ⌜ Rises (now parent) (scan .count) ⌝ }
+    requires { ⌜ scan .boundary ≤ farthest maxImage ⌝ }
+    ensures { λ r. ⌜ r ≡ stretchesOk (paths (now (parent .entry)) []) scan ⌝ }
+{
+    // Where the last stretch ended, and whether an unused slot came.
+    let mut from = 0;
+    let mut over = false;
+    for i in 0..5 {
+        let m = scan.stretches[i];
+        if in_use(m) {
+            if over || m.left < from {
+                return false;
+            }
+            if !stretch_ok(parent, scan, m) {
+                return false;
+            }
+            from = m.right;
+        } else {
+            over = true;
+        }
+    }
+    true
+}
+
+// Whether a place lies in a stretch.
+fn covered(m: Stretch, at: usize) -> bool
+    ensures { λ r. ⌜ r ≡ covers at (stretchOf m) ⌝ }
+{
+    m.left <= at && at < m.right
+}
+
+// Whether a place lies in one of the stretches of the slots in use, which come first.
+fn remembered(scan: Scan, at: usize) -> bool
+    ensures { λ r. ⌜ r ≡ any (covers at) (used (scan .stretches)) ⌝ }
+{
+    for i in 0..5 {
+        let m = scan.stretches[i];
+        if !in_use(m) {
+            return false;
+        }
+        if covered(m, at) {
+            return true;
+        }
+    }
+    false
+}
+
+// Whether a byte is due only where the rules fetch one: they are not done, the round goes on, and the place is not remembered.
+fn due_ok(first: &[u16], scan: Scan) -> bool
+    requires { ⌜ scan .node < length (now first) ⌝ }
+    requires { ⌜ scan .depth ≤ scan .boundary ⌝ }
+    ensures { λ r. ⌜ r ≡ dueOk (tables [] [] [] (now (first .entry)) []) scan ⌝ }
+{
+    if !scan.due {
+        return true;
+    }
+    let node = scan.node;
+    if scan.image < scan.boundary || first[node] == 0 {
+        return false;
+    }
+    scan.depth != scan.boundary && !remembered(scan, scan.boundary - 1 - scan.depth)
+}
+
+// Whether the state is in its ranges. The count comes first: tables of no node hold nothing to read.
+pub fn in_range(parent: &[u16], first: &[u16], scan: Scan) -> bool
+    requires { ⌜ Passing (now parent) (now first) (scan .count) ⌝ }
+    ensures { λ r. ⌜ ((label token next : List ℕ) → r ≡ inRange (tables (now (parent .entry)) label token (now (first .entry)) next) scan) ⌝ }
+{
+    if !between(1, scan.count, NODES) || scan.image > IMAGE {
+        return false;
+    }
+    if !between(1, scan.shortest, SHORTEST) || !lies(parent, scan.count, scan.node, scan.depth) {
+        return false;
+    }
+    if !between(scan.depth, scan.boundary, scan.image + PAST) || scan.supplied > SUPPLIED {
+        return false;
+    }
+    stretches_ok(parent, scan) && due_ok(first, scan)
+}
