@@ -50,12 +50,12 @@ pub fn state(s: Scan) {
     number(s.node);
     number(s.depth);
     number(if s.due { 1 } else { 0 });
+    number(s.supplied);
     let slots = s.stretches;
     stretch(slots[0]);
     stretch(slots[1]);
     stretch(slots[2]);
     stretch(slots[3]);
     stretch(slots[4]);
-    number(s.supplied);
     io::write_all(1, b"\n");
 }
