@@ -1,17 +1,19 @@
--- Demand 2: the hits are exactly the occurrences, and the places fetched are those of the reading rules. Here for the sweep of
--- one unchanging image by single bytes, over tables that begin with the built ones.
+-- Demand 2: the hits are exactly the occurrences, and the places fetched are those of the reading rules. For the sweep of one
+-- unchanging image by single bytes, over tables that begin with the built ones, and for the sweep of the same image as a whole.
 use Prim.Native.Nat.{ℕ, zero, suc}
 use mathlib.Core.Path.{_≡_}
+use mathlib.Core.Bool.{false}
 use mathlib.Core.List.{List, [], _∷_, _++_}
 use lib.ListN.{length, getD, take}
 use Rattle.rules.specs.Tokens.{shortestOf}
 use Rattle.rules.specs.Sweep.{happens, bytesOf, places, hits, Occurrences}
 use Rattle.book.specs.Book.{readBook, accepted}
-use Rattle.trie.specs.Tables.{Tables, nodes, built, Lent}
+use Rattle.trie.specs.Tables.{Tables, nodes, built, Lent, tooShort, written}
 use Rattle.scan.specs.declared.Scan.{Scan}
 use Rattle.scan.specs.Start.{start}
 use Rattle.scan.specs.Calls.{Answer, fetch, found, over, refused, Stepped, carryOn, supply}
 use Rattle.scan.specs.Answers.{answers, placesIn, hitsIn}
+use Rattle.image.specs.Image.{Swept, room, counted, noted, sweepImage}
 
 -- What the first calls answer, of which there are at most `calls` and `r` is the first: each place to fetch is supplied with
 -- the image's byte, a hit is carried on from, and after done or a refusal no call is made.
@@ -25,22 +27,31 @@ swept t image (suc calls) r =
       | refused k v ↦ []
     ]
 
--- `said calls` is what the first calls answer; `whole` is what the rules say in all.
-pub record Demand2 (tokens : List (List ℕ)) (image : List ℕ) (said : ℕ → List Answer) : Type 0 where
-  pub whole : List Answer
-  pub rules : whole ≡ answers (happens tokens (length image) (bytesOf image))
-  -- the calls answer what the rules say, and the last answer is done
-  pub answered : (calls : ℕ) → said calls ≡ take calls whole
-  pub ends : (before : List Answer) × (whole ≡ before ++ (over ∷ []))
-  -- the places fetched are the rules', and the hits are exactly the occurrences
-  pub fetches : placesIn whole ≡ places (happens tokens (length image) (bytesOf image))
-  pub finds : hitsIn whole ≡ hits (happens tokens (length image) (bytesOf image))
-  pub occurrences : Occurrences tokens image (hitsIn whole)
+-- `said calls` is what the first calls answer; `whole` is what the rules say in all. `lent` are the tables for the sweep of the image
+-- as a whole, and `sweep` is that call, for any two hit buffers.
+pub record Demand2 (tokens : List (List ℕ)) (image : List ℕ) (said : ℕ → List Answer) (lent : Tables) (sweep : List ℕ → List ℕ → Swept) : Type 0
+  where
+    pub whole : List Answer
+    pub rules : whole ≡ answers (happens tokens (length image) (bytesOf image))
+    -- the calls answer what the rules say, and the last answer is done
+    pub answered : (calls : ℕ) → said calls ≡ take calls whole
+    pub ends : (before : List Answer) × (whole ≡ before ++ (over ∷ []))
+    -- the places fetched are the rules', and the hits are exactly the occurrences
+    pub fetches : placesIn whole ≡ places (happens tokens (length image) (bytesOf image))
+    pub finds : hitsIn whole ≡ hits (happens tokens (length image) (bytesOf image))
+    pub occurrences : Occurrences tokens image (hitsIn whole)
+    -- the whole image gives these hits and as many places: it answers their numbers (or refusal 12 with that of the hits), builds the
+    -- tables, and writes the hits as far as both buffers reach
+    pub counts : (ends numbers : List ℕ) → sweep ends numbers .answer ≡ counted (room ends numbers) (length (hitsIn whole)) (length (placesIn whole))
+    pub builds : (ends numbers : List ℕ) → sweep ends numbers .tables ≡ written (built tokens) lent
+    pub notes-ends : (ends numbers : List ℕ) → sweep ends numbers .ends ≡ noted (λ h. h .0) (room ends numbers) (hitsIn whole) ends
+    pub notes-tokens : (ends numbers : List ℕ) → sweep ends numbers .tokens ≡ noted (λ h. h .1) (room ends numbers) (hitsIn whole) numbers
 
--- Demand 2 in one piece: for every accepted book, all tables that begin with its built ones, and every image that starting takes.
+-- Demand 2 in one piece: for every accepted book, all tables that begin with its built ones, all tables that it can be built into, and
+-- every image that starting takes.
 unfoldable pub Demand2For : Type 0
 Demand2For =
     (book : List ℕ) (tokens : List (List ℕ)) → readBook book ≡ accepted tokens →
-    (t : Tables) → Lent t (built tokens) →
+    (t : Tables) → Lent t (built tokens) → (lent : Tables) → tooShort lent tokens ≡ false →
     (image : List ℕ) (s : Scan) → start (length image) (shortestOf tokens) (length (nodes tokens)) ≡ accepted s →
-    Demand2 tokens image (λ calls. swept t image calls (carryOn t s))
+    Demand2 tokens image (λ calls. swept t image calls (carryOn t s)) lent (sweepImage book image lent)

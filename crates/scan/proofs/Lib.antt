@@ -1,6 +1,5 @@
 -- Invariants of the loops, and what the steps come to, over plain lists and numbers; the functions' proofs supply the paths.
 pub mod Climbing
-pub mod Searching
 pub mod Lowering
 pub mod Recalling
 pub mod Cutting

@@ -11,10 +11,11 @@ use Rattle.rules.specs.Tokens.{shiftOf}
 use Rattle.rules.specs.Laws.All.{All}
 use Rattle.rules.specs.Laws.Exact.Shift.{shift-upto}
 use Rattle.trie.specs.Tables.{Tables}
-use Rattle.trie.specs.Walks.{along, childBy, ending, words}
+use Rattle.trie.specs.Walks.{childBy, ending, words}
 use Rattle.trie.specs.Answers.{tables, childOf}
 use Rattle.trie.specs.declared.Child.{Child}
 use Rattle.trie.specs.declared.Child.the-variants.{At, Absent}
+use Rattle.trie.specs.Laws.Chain.{along-alike}
 use Rattle.scan.specs.declared.Scan.{Scan}
 use Rattle.scan.specs.declared.Stretch.{Stretch as Slot}
 use Rattle.scan.specs.declared.steps.Found.{Found}
@@ -43,8 +44,8 @@ module _ {parent label token : List ℕ} {s : Scan} (e : Ending parent label tok
   pub ending-readable : Readable parent label token (s .count)
   ending-readable = unbroken-readable whole (s .count) (e .steady .ready .tree)
 
-  pub ending-numbers : (1 ≤ s .shortest) × (s .shortest ≤ 1024) × (s .node < s .count)
-  ending-numbers = (e .steady .ready .positive, e .steady .ready .first, e .steady .within .node)
+  pub ending-numbers : (1 ≤ s .shortest) × (s .node < s .count)
+  ending-numbers = (e .steady .ready .positive, e .steady .within .node)
 
   module _ (o : Option ℕ) (by : ℕ) (is : by ≡ shiftIn parent label token s o) where
     short : by ≤ s .shortest
@@ -98,11 +99,6 @@ ended-state parent label token first next s o by slots p q =
       stretches = l;
       supplied = s .supplied;
     }
-
--- A walk along a chain reads the labels and the siblings.
-along-alike : (t u : Tables) → t .label ≡ u .label → t .next ≡ u .next → (x f at : ℕ) → along t x f at ≡ along u x f at
-along-alike t u tag sib x zero at = refl
-along-alike t u tag sib x (suc f) at = cc (along-alike t u tag sib x f (getD (t .next) at 0))
 
 -- the state at another node, one deeper
 abbrev down : Scan → ℕ → List Slot → Scan

@@ -1,10 +1,9 @@
 -- The laws of the calls. Over tables that represent the tokens: what a state comes to (Walk), that it is in its ranges (Range),
 -- and that a call in turn answers what the rules say next (Settle). Over any tables that pass refusal 9: a state in its ranges
--- (Within) stays there by a step (Stay) and by a call (Kept). Slots: the stretches in a state are those laid there. Of the code: a
--- shift searched token by token (Least), and what it finds in the tables that it climbs (Ways, Memory).
+-- (Within) stays there by a step (Stay) and by a call (Kept). Slots: the stretches in a state are those laid there. Of the code:
+-- what it finds in the tables that it climbs (Ways, Memory).
 pub mod Mild
 pub mod Slots
-pub mod Least
 pub mod Ways
 pub mod Walk
 pub mod Within

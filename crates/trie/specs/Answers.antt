@@ -1,14 +1,14 @@
 -- What the calls answer, as the definitions have it: lent lists as tables, a child, a test, a building.
 use Prim.Native.Nat.{ℕ}
-use mathlib.Core.Bool.{Bool, true, false, _&&_}
+use mathlib.Core.Bool.{Bool, _&&_}
 use mathlib.Core.List.{List}
 use mathlib.Core.Option.{Option, some, none}
-use lib.Dec.{leb, ltb, eqb}
+use lib.Dec.{leb}
 use lib.ListN.{getD}
 use Rattle.book.specs.Book.{Verdict, accepted, refused}
 use Rattle.book.specs.Answers.{refusalOf}
 use Rattle.trie.specs.Tables.{Tables, Sizes}
-use Rattle.trie.specs.Broken.{rootSound, links, maxNumber}
+use Rattle.trie.specs.Broken.{links, maxNumber}
 use Rattle.trie.specs.declared.Child.{Child}
 use Rattle.trie.specs.declared.Child.the-variants.{At, Absent}
 use Rattle.trie.specs.declared.Tested.{Tested}
@@ -28,13 +28,9 @@ abbrev pub testedOf : Tested → Option ℕ
 testedOf Sound = none
 testedOf (Breaks v) = some v
 
--- the tests of node v but that of its depth
+-- the tests of node v, which is not the root, but those of its parent and its depth
 abbrev pub ownSound : Tables → ℕ → ℕ → Bool
-ownSound t count v =
-    links t count v && elim (eqb v 0) [
-      | true ↦ rootSound t
-      | false ↦ ltb (getD (t .parent) v 0) v && leb (getD (t .token) v 0) maxNumber
-    ]
+ownSound t count v = leb (getD (t .token) v 0) maxNumber && links t count v
 
 abbrev pub answerOf : Building → Verdict Sizes
 answerOf (Made s) = accepted (record { nodes = s .nodes; shortest = s .shortest; longest = s .longest })

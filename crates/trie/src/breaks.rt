@@ -1,17 +1,23 @@
 // Refusal 9: the first node that breaks the tables, found in one pass over the nodes.
 ghost use mathlib.Core.Path.{_≡_};
 ghost use mathlib.Core.List.{[]};
-ghost use Rattle.trie.specs.Broken.{linked, links, rootSound, broken};
+ghost use Prim.Native.Nat.{_-_, _≤_, _<_};
+ghost use lib.ListN.{length};
+ghost use Rattle.trie.specs.Broken.{linked, sound, firstBreak, broken};
 ghost use Rattle.trie.specs.Answers.{tables, testedOf, ownSound};
+ghost use Rattle.trie.specs.InPlace.{Room};
+ghost use Rattle.trie.specs.Laws.Shape.{up};
+ghost use Rattle.trie.specs.Laws.Testing.{Reach, Chain};
 use crate::Tested;
 use crate::climbs::depth_at;
-use crate::entries::entry;
-use crate::entries::label_at;
+use crate::entries::least;
 use crate::entries::shortest;
+use crate::entries::wide;
 use book::Book;
 
 // A link from `node` to `at` is 0, or leads to a later node with the parent `above`.
 fn link_sound(parent: &[u16], count: usize, node: usize, at: usize, above: usize) -> bool
+    requires { ⌜ count ≤ length (now parent) ⌝ }
     ensures { λ r. ⌜ r ≡ linked (tables (now (parent .entry)) [] [] [] []) count node at above ⌝ }
 {
     if at == 0 {
@@ -23,65 +29,133 @@ fn link_sound(parent: &[u16], count: usize, node: usize, at: usize, above: usize
     if count <= at {
         return false;
     }
-    entry(parent, at) == above
+    wide(parent[at]) == above
 }
 
-// The first child has this node for parent, the next sibling this node's parent.
-fn links_sound(parent: &[u16], first: &[u16], next: &[u16], count: usize, node: usize) -> bool
-    ensures { λ r. ⌜
-        r ≡ links (tables (now (parent .entry)) [] [] (now (first .entry)) (now (next .entry))) count node
-        ⌝ }
-{
-    if link_sound(parent, count, node, entry(first, node), node) {
-        link_sound(parent, count, node, entry(next, node), entry(parent, node))
-    } else {
-        false
-    }
-}
-
-// The root has 0 for parent, label, token and sibling.
-fn root_sound(parent: &[u16], label: &[u8], token: &[u16], next: &[u16]) -> bool
-    ensures { λ r. ⌜
-        r ≡ rootSound (tables (now (parent .entry)) (now (label .entry)) (now (token .entry)) [] (now (next .entry)))
-        ⌝ }
-{
-    if entry(parent, 0) != 0 {
-        return false;
-    }
-    if label_at(label, 0) != 0 {
-        return false;
-    }
-    if entry(token, 0) != 0 {
-        return false;
-    }
-    entry(next, 0) == 0
-}
-
-// All tests of a node but that of its depth.
-fn own_sound(
+// The root has 0 for parent, label, token and sibling, and its first child has it for parent.
+fn root_sound(
     parent: &[u16],
     label: &[u8],
     token: &[u16],
     first: &[u16],
     next: &[u16],
     count: usize,
-    node: usize,
 ) -> bool
+    requires { ⌜ Room (tables (now parent) (now label) (now token) (now first) (now next)) count × (0 < count) ⌝ }
     ensures { λ r. ⌜
-        r ≡ ownSound
-        (tables (now (parent .entry)) (now (label .entry)) (now (token .entry)) (now (first .entry)) (now (next .entry))) count node
+        r ≡ sound
+        (tables (now (parent .entry)) (now (label .entry)) (now (token .entry)) (now (first .entry)) (now (next .entry))) count 0
         ⌝ }
 {
-    if !links_sound(parent, first, next, count, node) {
+    if parent[0] != 0 {
         return false;
     }
-    if node == 0 {
-        return root_sound(parent, label, token, next);
-    }
-    if node <= entry(parent, node) {
+    if label[0] != 0 {
         return false;
     }
-    entry(token, node) <= Book::TOKENS
+    if token[0] != 0 {
+        return false;
+    }
+    if next[0] != 0 {
+        return false;
+    }
+    link_sound(parent, count, 0, wide(first[0]), 0)
+}
+
+// The tests of a node after the root, but those of its parent and its depth.
+fn own_sound(
+    parent: &[u16],
+    token: &[u16],
+    first: &[u16],
+    next: &[u16],
+    count: usize,
+    node: usize,
+) -> bool
+    requires { ⌜ Reach (tables (now parent) [] (now token) (now first) (now next)) count × (node < count) ⌝ }
+    ensures { λ r. ⌜
+        r ≡ ownSound (tables (now (parent .entry)) [] (now (token .entry)) (now (first .entry)) (now (next .entry))) count node
+        ⌝ }
+{
+    if Book::TOKENS < wide(token[node]) {
+        return false;
+    }
+    if !link_sound(parent, count, node, wide(first[node]), node) {
+        return false;
+    }
+    link_sound(parent, count, node, wide(next[node]), wide(parent[node]))
+}
+
+// The end of the chain from `node` on, `last` at the latest: each node before it passes, and the next node is its first child.
+fn chain_end(
+    parent: &[u16],
+    token: &[u16],
+    first: &[u16],
+    next: &[u16],
+    count: usize,
+    node: usize,
+    last: usize,
+) -> usize
+    requires { ⌜
+        Reach (tables (now parent) [] (now token) (now first) (now next)) count × (node ≤ last) × (last < count)
+        ⌝ }
+    ensures { λ r. ⌜
+        Chain (tables (now (parent .entry)) [] (now (token .entry)) (now (first .entry)) (now (next .entry))) count node r
+        × (r ≤ last)
+        ⌝ }
+{
+    let mut at = node;
+    while at < last {
+        // By counting, and tested before the link: a turn that went where a link leads would wait for it to be read.
+        let after = at + 1;
+        if wide(parent[after]) != at {
+            return at;
+        }
+        if Book::TOKENS < wide(token[at]) {
+            return at;
+        }
+        if !link_sound(parent, count, at, wide(next[at]), wide(parent[at])) {
+            return at;
+        }
+        if wide(first[at]) != after {
+            return at;
+        }
+        at = after;
+    }
+    at
+}
+
+// The first node after the root that breaks the tables, chain by chain.
+fn later_break(parent: &[u16], token: &[u16], first: &[u16], next: &[u16], count: usize) -> Tested
+    requires { ⌜
+        Reach (tables (now parent) [] (now token) (now first) (now next)) count
+        × (0 < count) × (up (tables (now parent) [] (now token) (now first) (now next)) 0 ≡ 0)
+        ⌝ }
+    ensures { λ r. ⌜
+        testedOf r ≡ firstBreak
+        (tables (now (parent .entry)) [] (now (token .entry)) (now (first .entry)) (now (next .entry))) count (count - 1) 1
+        ⌝ }
+{
+    let mut node = 1;
+    let mut depth = 0;
+    while node < count {
+        let above = wide(parent[node]);
+        if node <= above {
+            return Tested::Breaks(node);
+        }
+        // The parents up to here are smaller nodes, so the way up ends.
+        depth = depth_at(parent, node, above, depth);
+        if Book::BODY < depth {
+            return Tested::Breaks(node);
+        }
+        let last = least(count - 1, node + (Book::BODY - depth));
+        let end = chain_end(parent, token, first, next, count, node, last);
+        if !own_sound(parent, token, first, next, count, end) {
+            return Tested::Breaks(end);
+        }
+        depth += end - node;
+        node = end + 1;
+    }
+    Tested::Sound
 }
 
 // The shortest length where a table is shorter than the count, else the first node that breaks the tables.
@@ -102,18 +176,11 @@ pub fn first_break(
     if least < count {
         return Tested::Breaks(least);
     }
-    let mut node = 0;
-    let mut depth = 0;
-    while node < count {
-        if !own_sound(parent, label, token, first, next, count, node) {
-            return Tested::Breaks(node);
-        }
-        // The parents up to here are smaller nodes, so the way up ends.
-        depth = depth_at(parent, node, depth);
-        if Book::BODY < depth {
-            return Tested::Breaks(node);
-        }
-        node += 1;
+    if count == 0 {
+        return Tested::Sound;
     }
-    Tested::Sound
+    if !root_sound(parent, label, token, first, next, count) {
+        return Tested::Breaks(0);
+    }
+    later_break(parent, token, first, next, count)
 }

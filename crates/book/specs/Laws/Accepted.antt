@@ -55,7 +55,7 @@ module _ (book : List ℕ) (tokens : List (List ℕ)) (read : readBook book ≡ 
       let long = opened-length book at (t .opened) in
       fit-snoc ts (bodyAt book at) f (rw long (opened-range book at (t .opened))) (t .few) (rw long (t .small)) (t .new)
 
-  read-all : ((at : ℕ) × Fit tokens) × (1 ≤ length tokens)
+  read-all : ((at : ℕ) × Fit tokens × (at + 1 ≡ length book)) × (1 ≤ length tokens)
   read-all =
       accepted-keeps book (λ _. Fit) more tokens read
       (record { each = λ i h. absurd (omega arith); count = omega arith; bodies = omega arith; distinct = λ i j h. absurd (omega arith) })
@@ -66,9 +66,12 @@ module _ (book : List ℕ) (tokens : List (List ℕ)) (read : readBook book ≡ 
   pub accepted-fit : Fit tokens
   accepted-fit = read-all .0 .1
 
+  pub accepted-shortest : (1 ≤ shortestOf tokens) × (shortestOf tokens ≤ maxBody)
+  accepted-shortest = let r = shortest-is tokens accepted-some in omega (arith, accepted-fit .each (r .0) (r .1))
+
   pub accepted-setting : Setting tokens (shortestOf tokens) (longestOf tokens)
   accepted-setting = record {
-    positive = let r = shortest-is tokens accepted-some in omega (arith, accepted-fit .each (r .0) (r .1));
+    positive = accepted-shortest .0;
     shortest = shortest-le tokens;
     longest = longest-ge tokens;
     distinct = accepted-fit .distinct;

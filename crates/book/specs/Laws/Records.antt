@@ -1,4 +1,5 @@
--- The tokens of an accepted book are the bodies of its records, one record after the other; and where token number i stands.
+-- The tokens of an accepted book are the bodies of its records, one record after the other, with 00h at the end; and where token
+-- number i stands.
 use Prim.Native.Nat.{ℕ, zero, suc, _+_, _-_, _≤_, _<_}
 use native.Mathlib.Omega.{arith}
 use mathlib.Core.Path.{_≡_}
@@ -61,8 +62,15 @@ records-at book at (t ∷ ts) zero e z h r = let z : e ≡ at = omega arith in r
 records-at book at (t ∷ ts) (suc i) e z h r = records-at book (at + 1 + length t) ts i e (omega arith) (omega arith) (r .1)
 
 module _ (book : List ℕ) (tokens : List (List ℕ)) (read : readBook book ≡ accepted tokens) where
+  upto-last : (at : ℕ) × Upto book at tokens × (at + 1 ≡ length book)
+  upto-last = accepted-keeps book (Upto book) (upto-more book) tokens read (record { place = omega arith; records = tt }) .0
+
   pub accepted-records : Records book 0 tokens
-  accepted-records = accepted-keeps book (Upto book) (upto-more book) tokens read (record { place = omega arith; records = tt }) .0 .1 .records
+  accepted-records = upto-last .1 .records
+
+  -- 00h closes the book.
+  pub accepted-size : length book ≡ 1 + length tokens + total tokens
+  accepted-size = let e = upto-last in omega (arith, e .1 .place, e .2)
 
   -- Where `placeIn` says that token number i stands, there it stands.
   module _ (i : ℕ) (h : 1 ≤ i) (k : i ≤ length tokens) where

@@ -68,28 +68,31 @@ module _ (book : List ℕ) (at : ℕ) (o : Opened book at) where
   pub opened-length : length (bodyAt book at) ≡ sizeAt book at
   opened-length = simp (length-take, length-drop) (omega arith)
 
--- What each record that is taken hands on holds in the end.
+-- What each record that is taken hands on holds in the end, at the last byte, which closes the book.
 module _ (book : List ℕ) (P : ℕ → List (List ℕ) → Type 0)
     (more : (at : ℕ) (ts : List (List ℕ)) → Taken book at ts → P at ts → P (at + 1 + sizeAt book at) (ts ++ (bodyAt book at ∷ []))) where
   module _ (tokens : List (List ℕ)) where
     abbrev Result : Reading → Type 0
-    Result r = r ≡ accepted tokens → ((at : ℕ) × P at tokens) × (1 ≤ length tokens)
+    Result r = r ≡ accepted tokens → ((at : ℕ) × P at tokens × (at + 1 ≡ length book)) × (1 ≤ length tokens)
 
     refuses : (k v : ℕ) → Result (refused k v)
     refuses k v e = absurd (let z : _≡_ {A = ℕ} 0 1 = cc in omega arith)
 
-    closed-keeps : (at : ℕ) (ts : List (List ℕ)) → P at ts → Result (closed book at ts)
-    closed-keeps at ts p =
+    closed-keeps : (at : ℕ) (ts : List (List ℕ)) → at < length book → P at ts → Result (closed book at ts)
+    closed-keeps at ts h p =
         decide Result (trailing book at) _ _ (λ _. refuses 3 (at + 1))
-        (λ _. decide Result (noToken ts) _ _ (λ _. refuses 6 0)
-        (λ e q. let z : tokens ≡ ts = cc in rw z ((at, p), omega (arith, eqb-false (length ts) 0 e))))
+        (λ l. decide Result (noToken ts) _ _ (λ _. refuses 6 0)
+        (λ e.
+        let last : at + 1 ≡ length book = omega (arith, ltb-false (at + 1) (length book) l) in
+        let some : 1 ≤ length ts = omega (arith, eqb-false (length ts) 0 e) in
+        λ q. let z : tokens ≡ ts = cc in rw z ((at, p, last), some)))
 
     read-keeps : (fuel at : ℕ) (ts : List (List ℕ)) → P at ts → Result (readFrom book fuel at ts)
     read-keeps zero at ts p = refuses 1 (length book)
     read-keeps (suc fuel) at ts p =
         decide Result (kindMissing book at) _ _ (λ _. refuses 1 (length book))
         (λ a. decide Result (kindUnknown book at) _ _ (λ _. refuses 2 at)
-        (λ b. decide Result (closes book at) _ _ (λ _. closed-keeps at ts p)
+        (λ b. decide Result (closes book at) _ _ (λ _. closed-keeps at ts (leb-false (length book) at a) p)
         (λ c. decide Result (bodyShort book at) _ _ (λ _. refuses 1 at)
         (λ d. decide Result (overLimits book at ts) _ _ (λ _. refuses 5 at)
         (λ e. decide Result (repeats book at ts) _ _ (λ _. refuses 4 at)
@@ -107,5 +110,6 @@ module _ (book : List ℕ) (P : ℕ → List (List ℕ) → Type 0)
         } in
         read-keeps fuel (at + 1 + sizeAt book at) (ts ++ (bodyAt book at ∷ [])) (more at ts t p)))))))
 
-  pub accepted-keeps : (tokens : List (List ℕ)) → readBook book ≡ accepted tokens → P 0 [] → ((at : ℕ) × P at tokens) × (1 ≤ length tokens)
+  pub accepted-keeps : (tokens : List (List ℕ)) → readBook book ≡ accepted tokens → P 0 []
+      → ((at : ℕ) × P at tokens × (at + 1 ≡ length book)) × (1 ≤ length tokens)
   accepted-keeps tokens read p = read-keeps tokens (suc (length book)) 0 [] p read

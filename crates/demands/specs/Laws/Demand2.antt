@@ -1,21 +1,24 @@
 -- Demand 2 holds.
 use Prim.Native.Nat.{ℕ, suc, _+_, _*_, _≤_}
 use native.Mathlib.Omega.{arith}
-use mathlib.Core.Path.{_≡_, refl, sym, subst}
+use mathlib.Core.Path.{_≡_, refl, ap, sym, subst, _∙_}
+use mathlib.Core.Bool.{Bool, true, false}
 use mathlib.Core.List.{List}
+use borrow.Author.Tests.{le-ltb}
 use lib.ListN.{length}
 use Rattle.rules.specs.Rules.{fresh}
 use Rattle.rules.specs.Tokens.{shortestOf, longestOf}
-use Rattle.rules.specs.Sweep.{happens, bytesOf, Occurrences}
+use Rattle.rules.specs.Sweep.{happens, bytesOf, places, hits, Occurrences}
 use Rattle.rules.specs.Laws.Limit.Ends.{steps-enough}
-use Rattle.book.specs.Book.{readBook, accepted, maxImage}
+use Rattle.book.specs.Book.{Reading, readBook, accepted, refused, maxImage}
 use Rattle.book.specs.Laws.Sweep.{book-exact}
-use Rattle.trie.specs.Tables.{Tables, nodes, built, Lent}
+use Rattle.trie.specs.Tables.{Tables, nodes, built, Lent, tooShort, written}
 use Rattle.trie.specs.Walks.{ofTables}
 use Rattle.scan.specs.declared.Scan.{Scan}
 use Rattle.scan.specs.Start.{started, start}
 use Rattle.scan.specs.Calls.{carryOn}
-use Rattle.scan.specs.Answers.{answers}
+use Rattle.scan.specs.Answers.{answers, placesIn, hitsIn}
+use Rattle.image.specs.Image.{Swept, tooLong, room, counted, noted, sweepImage}
 use Rattle.scan.specs.Laws.Walk.{fresh-sat}
 use Rattle.scan.specs.Laws.Settle.{Settled, carry-settles}
 use Rattle.demands.specs.Demand2.{swept, Demand2, Demand2For}
@@ -39,13 +42,28 @@ module _ (book : List ℕ) (tokens : List (List ℕ)) (read : readBook book ≡ 
         same-answers book tokens read t lent n h (bytesOf image),
       )
 
-  image-demand2 : (s : Scan) → start (length image) (shortestOf tokens) (length (nodes tokens)) ≡ accepted s
-      → Demand2 tokens image (λ calls. swept t image calls (carryOn t s))
-  image-demand2 s e =
+  -- The sweep of the whole image, by what the rules say.
+  module _ (tables : Tables) (fits : tooShort tables tokens ≡ false) (h : length image ≤ maxImage) (ends numbers : List ℕ) where
+    whole-image : sweepImage book image tables ends numbers ≡ (let es = happens tokens (length image) (bytesOf image) in
+        let r = room ends numbers in
+        record {
+          answer = counted r (length (hits es)) (length (places es));
+          tables = written (built tokens) tables;
+          ends = noted (λ h. h .0) r (hits es) ends;
+          tokens = noted (λ h. h .1) r (hits es) numbers;
+        })
+    whole-image = cc (read, fits, le-ltb maxImage (length image) h)
+
+  image-demand2 : (tables : Tables) → tooShort tables tokens ≡ false → (s : Scan)
+      → start (length image) (shortestOf tokens) (length (nodes tokens)) ≡ accepted s
+      → Demand2 tokens image (λ calls. swept t image calls (carryOn t s)) tables (sweepImage book image tables)
+  image-demand2 tables fits s e =
       let f = start-fresh (length image) (shortestOf tokens) (length (nodes tokens)) s e in
       let es = happens tokens (length image) (bytesOf image) in
       let x = book-exact book tokens read image in
       let done = answers-end es (x .whole) in
+      let found = answers-hits es (x .whole) in
+      let call = whole-image tables fits (f .0) in
       record {
         whole = answers es;
         rules = refl;
@@ -53,10 +71,16 @@ module _ (book : List ℕ) (tokens : List (List ℕ)) (read : readBook book ≡ 
             rw (f .1) (swept-right (given book tokens read t lent (length image) (f .0)) image calls 0 (answers es) done _ (first-settles (f .0)));
         ends = ends-over (answers es) done;
         fetches = answers-places es (x .whole);
-        finds = answers-hits es (x .whole);
-        occurrences = subst (Occurrences tokens image) (sym (answers-hits es (x .whole))) (x .occurrences);
+        finds = found;
+        occurrences = subst (Occurrences tokens image) (sym found) (x .occurrences);
+        counts = λ ends numbers. ap (λ r. r .answer) (call ends numbers)
+            ∙ ap (λ l. counted (room ends numbers) (length l) (length (places es))) (sym found)
+            ∙ ap (λ l. counted (room ends numbers) (length (hitsIn (answers es))) (length l)) (sym (answers-places es (x .whole)));
+        builds = λ ends numbers. ap (λ r. r .tables) (call ends numbers);
+        notes-ends = λ ends numbers. ap (λ r. r .ends) (call ends numbers) ∙ ap (λ l. noted (λ h. h .0) (room ends numbers) l ends) (sym found);
+        notes-tokens = λ ends numbers. ap (λ r. r .tokens) (call ends numbers) ∙ ap (λ l. noted (λ h. h .1) (room ends numbers) l numbers) (sym found);
       }
 
 pub demand2 : Demand2For
 unfolding Demand2For
-demand2 = image-demand2
+demand2 book tokens read t lent tables fits image s e = image-demand2 book tokens read t lent image tables fits s e

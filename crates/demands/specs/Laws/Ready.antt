@@ -8,11 +8,10 @@ use lib.ListN.{length}
 use Rattle.rules.specs.Rules.{fresh, trace}
 use Rattle.rules.specs.Tokens.{shortestOf, longestOf}
 use Rattle.rules.specs.Sweep.{happens}
-use Rattle.rules.specs.Laws.Lengths.{shortest-is}
 use Rattle.rules.specs.Laws.Tests.{decide}
 use Rattle.rules.specs.Laws.Alike.{trace-same}
 use Rattle.book.specs.Book.{readBook, accepted, refused, maxImage}
-use Rattle.book.specs.Laws.Accepted.{accepted-fit, accepted-some, accepted-setting, accepted-longest}
+use Rattle.book.specs.Laws.Accepted.{accepted-fit, accepted-shortest, accepted-setting, accepted-longest}
 use Rattle.trie.specs.Tables.{Tables, nodes, built, Lent}
 use Rattle.trie.specs.Walks.{ending, ofTables}
 use Rattle.trie.specs.Laws.Represents.{built-represents}
@@ -34,12 +33,11 @@ module _ (book : List ℕ) (tokens : List (List ℕ)) (read : readBook book ≡ 
   given n h =
       let f = accepted-fit book tokens read in
       let r = built-represents tokens f t lent in
-      let s = shortest-is tokens (accepted-some book tokens read) in
       record {
         setting = accepted-setting book tokens read;
         long = accepted-longest book tokens read .0;
         short = accepted-longest book tokens read .1;
-        first = omega (arith, f .each (s .0) (s .1));
+        first = accepted-shortest book tokens read .1;
         represents = r;
         nodes = omega (arith, r .few, f .bodies);
         image = h;

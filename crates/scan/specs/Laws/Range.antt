@@ -11,7 +11,7 @@ use Rattle.book.specs.Book.{maxBody, maxImage}
 use Rattle.rules.specs.Rules.{Stretch, Config, next}
 use Rattle.rules.specs.Sweep.{digits4, limit}
 use Rattle.rules.specs.Laws.Digits.{limit-mono, reached4}
-use Rattle.rules.specs.Laws.Limit.Span.{Spans, Upto, short}
+use Rattle.rules.specs.Laws.Limit.Span.{four-few, Spans, Upto, short}
 use Rattle.rules.specs.Laws.Image.{stretchesOf, stretches-length}
 use Rattle.trie.specs.Tables.{Tables}
 use Rattle.trie.specs.Walks.{ending, ofTables}
@@ -20,7 +20,7 @@ use Rattle.scan.specs.Calls.{refused, outOfTurn, judged}
 use Rattle.scan.specs.declared.Scan.{Scan}
 use Rattle.scan.specs.State.{configOf, laid, maxStretches, wantsByte, inRange, maxSupplied}
 use Rattle.scan.specs.Laws.Walk.{Given, Sat}
-use Rattle.scan.specs.Laws.Within.{Ready, Within, four-few, moved-config, moved-range}
+use Rattle.scan.specs.Laws.Within.{Ready, Within, moved-config, moved-range}
 
 -- The state after k bytes.
 abbrev pub stateAt : ℕ → ℕ → ℕ → Config ℕ → Bool → ℕ → Scan

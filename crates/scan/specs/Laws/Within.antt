@@ -1,7 +1,6 @@
 -- A state in its ranges, as propositions: what the tests of refusal 10 say, over any tables that pass refusal 9.
-use Prim.Native.Nat.{ℕ, _-_, _*_, _^_, _≤_, _<_}
+use Prim.Native.Nat.{ℕ, _-_, _*_, _≤_, _<_}
 use native.Mathlib.Omega.{arith}
-use native.Mathlib.Nat.{pow-le-pow-right, lt-of-not-le}
 use mathlib.Core.Path.{_≡_, refl, ap, sym, subst, _∙_}
 use mathlib.Core.Bool.{Bool, true, _||_, not}
 use mathlib.Core.List.{List, [], _∷_}
@@ -13,7 +12,7 @@ use Rattle.rules.specs.Rules.{Stretch, Config, kept, next}
 use Rattle.rules.specs.Laws.Tests.{passed}
 use Rattle.rules.specs.Laws.All.{All}
 use Rattle.rules.specs.Laws.Limit.{Held}
-use Rattle.rules.specs.Laws.Limit.Span.{Spans, Upto, short}
+use Rattle.rules.specs.Laws.Limit.Span.{four-few, Spans, Upto, short}
 use Rattle.book.specs.Book.{maxBody, maxImage}
 use Rattle.trie.specs.Tables.{Tables}
 use Rattle.trie.specs.Walks.{depth}
@@ -43,12 +42,6 @@ pub record Within (t : Tables) (count n : ℕ) (c : Config ℕ) : Type 0 where
   pub near : c .boundary ≤ farthest n
   pub fits : All (Fits t count) (c .stretches)
   pub upto : Upto n (c .stretches)
-
--- Powers of 4 up to 1,024.
-pub four-few : (k : ℕ) → 4 ^ k ≤ maxBody → k ≤ maxStretches
-four-few k h =
-    let l : k < 6 = lt-of-not-le (λ i. omega (arith, pow-le-pow-right {n = 4} (omega arith) {i = 6} {j = k} i)) in
-    omega arith
 
 -- Stretches in range fit the slots of a state.
 spans-real : (b lo : ℕ) (ms : List (Stretch ℕ)) → Spans maxBody b lo ms → All Real ms

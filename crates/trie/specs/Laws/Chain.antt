@@ -30,6 +30,11 @@ module _ (label next : List ℕ) (x : ℕ) where
   walked-on (suc left) last at l a d =
       let e : suc left - 1 ≡ left = omega arith in rw e (cc (ne-eqb at 0 a, ne-eqb (getD label at 0) x d))
 
+-- `along` reads the labels and the siblings alone.
+pub along-alike : (t u : Tables) → t .label ≡ u .label → t .next ≡ u .next → (x fuel at : ℕ) → along t x fuel at ≡ along u x fuel at
+along-alike t u l n x zero at = refl
+along-alike t u l n x (suc fuel) at = cc (along-alike t u l n x fuel (getD (t .next) at 0))
+
 abbrev pub foundOf : Way → Option ℕ
 foundOf (Found v) = some v
 foundOf (Ends v) = none

@@ -35,6 +35,7 @@ pub record Represents (t : Tables) (count : ℕ) (tokens : List (List ℕ)) : Ty
   pub step : (v : ℕ) → 0 < v → v < count → ending t v ≡ getD (t .label) v 0 ∷ ending t (getD (t .parent) v 0)
   pub real : (v : ℕ) → 0 < v → v < count → any (ends (ending t v)) tokens ≡ true
   pub deep : (v : ℕ) → v < count → depth t v ≤ longestOf tokens
+  pub named : (v : ℕ) → v < count → getD (nodes tokens) v [] ≡ ending t v
   -- each ending of a token is that of one node
   pub stands : (u : List ℕ) → any (ends u) tokens ≡ true → (w : ℕ) × (w < count) × (ending t w ≡ u)
   pub apart : (v w : ℕ) → v < count → w < count → ending t v ≡ ending t w → v ≡ w
@@ -70,6 +71,7 @@ represents tokens t n fs fit h k = record {
   step = ending-step t n (fs .shape);
   real = real tokens t n fs;
   deep = deep tokens t n fs;
+  named = λ v h. rw take-length at (fs .listed .at v h);
   stands = stands tokens t n fs;
   apart = ending-apart t n (fs .shape);
   child = child tokens t n fs;

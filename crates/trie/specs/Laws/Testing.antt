@@ -2,18 +2,18 @@
 use Prim.Native.Nat.{ℕ, zero, suc, _+_, _-_, _≤_, _<_}
 use native.Mathlib.Omega.{arith}
 use mathlib.Core.Path.{_≡_, refl, ap, sym, _∙_}
-use mathlib.Core.Bool.{Bool, true, false, _&&_}
+use mathlib.Core.Bool.{true, false}
 use mathlib.Core.List.{List, [], _∷_}
 use mathlib.Core.Option.{some, none}
-use borrow.Author.Tests.{eqb-true, eq-eqb, ne-eqb, ltb-true, lt-ltb, le-ltb, le-leb, lt-leb}
-use lib.Dec.{leb, ltb, eqb}
+use borrow.Author.Tests.{eqb-true, eq-eqb, ne-eqb, lt-ltb, le-ltb, le-leb, lt-leb}
+use lib.Dec.{eqb}
 use lib.ListN.{length}
-use Rattle.rules.specs.Laws.Tests.{split, below-suc, passed, and-l, and-r}
+use Rattle.rules.specs.Laws.Tests.{split, below-suc, passed}
 use Rattle.trie.specs.Tables.{Tables, shortestTable}
 use Rattle.trie.specs.Walks.{climb, depth}
-use Rattle.trie.specs.Broken.{maxDepth, maxNumber, links, rootSound, sound, firstBreak, broken}
+use Rattle.trie.specs.Broken.{maxDepth, maxNumber, linked, links, sound, firstBreak, broken}
 use Rattle.trie.specs.Answers.{tables, ownSound}
-use Rattle.trie.specs.Laws.Shape.{up, tag, sib, Falling, way-step}
+use Rattle.trie.specs.Laws.Shape.{up, tag, head, sib, Falling, way-step}
 use Rattle.trie.specs.Laws.Insert.{num}
 
 -- the way up from v has at most v steps
@@ -61,38 +61,59 @@ module _ (parent label token first next : List ℕ) where
   pub falling-bare : (n : ℕ) → Falling (tables parent label token first next) n → Falling (tables parent [] [] [] []) n
   falling-bare n s = record { size = s .size; root-up = s .root-up; ups = s .ups }
 
--- the tests of a node in another order
-swap : (a b : Bool) → (a && b) ≡ (b && a)
-swap true true = refl
-swap true false = refl
-swap false true = refl
-swap false false = refl
+-- the tables but that of the labels have n entries at least
+pub record Reach (t : Tables) (n : ℕ) : Type 0 where
+  pub parents : n ≤ length (t .parent)
+  pub tokens : n ≤ length (t .token)
+  pub firsts : n ≤ length (t .first)
+  pub nexts : n ≤ length (t .next)
 
-all-pass : (a d k l : Bool) → d ≡ true → (a && d && k && l) ≡ (l && (a && k))
-all-pass true d k l e = rw e (swap k l)
-all-pass false d k l e = swap false l
+-- node v passes but for its own parent and depth, and the next node is its first child
+pub record Chained (t : Tables) (count v : ℕ) : Type 0 where
+  pub child : head t v ≡ v + 1
+  pub back : up t (v + 1) ≡ v
+  pub few : num t v ≤ maxNumber
+  pub aside : linked t count v (sib t v) (up t v) ≡ true
 
-one-fails : (a d k l : Bool) → d ≡ false → (a && d && k && l) ≡ false
-one-fails true d k l e = rw e refl
-one-fails false d k l e = refl
+-- such are the nodes from v up to w
+pub record Chain (t : Tables) (count v w : ℕ) : Type 0 where
+  pub upward : v ≤ w
+  pub each : (k : ℕ) → v ≤ k → k < w → Chained t count k
 
-own-fails : (a d k l : Bool) → (l && (a && k)) ≡ false → (a && d && k && l) ≡ false
-own-fails true true k l e = swap k l ∙ e
-own-fails true false k l e = refl
-own-fails false d k l e = refl
+pub chain-none : (t : Tables) (count v : ℕ) → Chain t count v v
+chain-none t count v = record { upward = omega arith; each = λ k a b. absurd (omega arith) }
 
--- the nodes before v passed, and `deep` is the depth of the last of them
+pub chain-more : (t : Tables) (count v w : ℕ) → Chain t count v w → Chained t count w → Chain t count v (w + 1)
+chain-more t count v w c l = record {
+  upward = omega (arith, c .upward);
+  each = λ k a b. below-suc k w (omega arith) (λ h. c .each k a h) (λ e. rw e l);
+}
+
+-- Past the root, labels say nothing.
+module _ (parent label token first next : List ℕ) where
+  pub break-bare : (count fuel v : ℕ) → 0 < v
+      → firstBreak (tables parent label token first next) count fuel v ≡ firstBreak (tables parent [] token first next) count fuel v
+  break-bare count zero v h = refl
+  break-bare count (suc fuel) v h =
+      cc (ne-eqb v 0 (λ e. omega arith), depth-bare parent label token first next v, depth-bare parent [] token first next v, break-bare count fuel (v + 1) (omega arith))
+
+-- the nodes from the root to before v passed, and `deep` is the depth of the last of them
 pub record Passing (t : Tables) (count v deep : ℕ) : Type 0 where
   pub below : v ≤ count
-  pub rest : firstBreak t count (count - v) v ≡ firstBreak t count count 0
-  pub falls : 0 < v → Falling t v
+  pub rest : firstBreak t count (count - v) v ≡ firstBreak t count (count - 1) 1
+  pub falls : Falling t v
   pub before : deep ≡ depth t (v - 1)
 
-module _ (t : Tables) (count : ℕ) where
-  pub begins : Passing t count 0 0
-  begins = let e : count - 0 ≡ count = omega arith in
-      record { below = omega arith; rest = rw e refl; falls = λ h. absurd (omega arith); before = refl }
+-- they passed, and node v is their equal by its parent and its depth
+pub record Standing (t : Tables) (count v deep : ℕ) : Type 0 where
+  pub below : v < count
+  pub rest : firstBreak t count (count - v) v ≡ firstBreak t count (count - 1) 1
+  pub falls : Falling t (v + 1)
+  pub deep-at : deep ≡ depth t v
+  pub near : deep ≤ maxDepth
+  pub past : 0 < v
 
+module _ (t : Tables) (count : ℕ) where
   -- the value is that of the shortest table, or that of the first node
   pub short-breaks : (least : ℕ) → least ≡ shortestTable t → least < count → broken t count ≡ some least
   short-breaks least e h = cc (lt-ltb (shortestTable t) count (omega arith))
@@ -100,64 +121,130 @@ module _ (t : Tables) (count : ℕ) where
   pub long-enough : (least : ℕ) → least ≡ shortestTable t → count ≤ least → broken t count ≡ firstBreak t count count 0
   long-enough least e h = cc (le-ltb (shortestTable t) count (omega arith))
 
+  module _ (v : ℕ) (v< : v < count) where
+    one-more : firstBreak t count (count - v) v ≡ firstBreak t count (suc (count - (v + 1))) v
+    one-more = let e : count - v ≡ suc (count - (v + 1)) = omega arith in rw e refl
+
+    breaks : sound t count v ≡ false → firstBreak t count (count - v) v ≡ some v
+    breaks h = one-more ∙ cc
+
+    passes : sound t count v ≡ true → firstBreak t count (count - v) v ≡ firstBreak t count (count - (v + 1)) (v + 1)
+    passes h = one-more ∙ cc
+
+  -- the root comes first
+  from-root : firstBreak t count count 0 ≡ firstBreak t count (count - 0) 0
+  from-root = let e : count - 0 ≡ count = omega arith in rw e refl
+
+  pub root-breaks : 0 < count → sound t count 0 ≡ false → firstBreak t count count 0 ≡ some 0
+  root-breaks h e = from-root ∙ breaks 0 h e
+
+  pub root-passes : 0 < count → sound t count 0 ≡ true → firstBreak t count count 0 ≡ firstBreak t count (count - 1) 1
+  root-passes h e = from-root ∙ passes 0 h e
+
+  pub root-up : sound t count 0 ≡ true → up t 0 ≡ 0
+  root-up h = eqb-true (up t 0) 0 (passed (eqb (up t 0) 0 ∷ eqb (tag t 0) 0 ∷ eqb (num t 0) 0 ∷ eqb (sib t 0) 0 ∷ links t count 0 ∷ []) h 0)
+
+  pub begins : 0 < count → up t 0 ≡ 0 → Passing t count 1 0
+  begins h e = record {
+    below = omega arith;
+    rest = refl;
+    falls = record { size = omega arith; root-up = e; ups = λ v a b. absurd (omega arith) };
+    before = refl;
+  }
+
+  -- a node after the root that stands behind those that passed
   module _ (v deep : ℕ) (p : Passing t count v deep) where
-    pub done : count ≤ v → firstBreak t count count 0 ≡ none
+    pub done : count ≤ v → firstBreak t count (count - 1) 1 ≡ none
     done h = let e : count - v ≡ 0 = omega arith in sym (rw e at (p .rest))
 
     module _ (v< : v < count) where
-      one-more : firstBreak t count count 0 ≡ firstBreak t count (suc (count - (v + 1))) v
-      one-more = let e : count - v ≡ suc (count - (v + 1)) = omega arith in sym (rw e at (p .rest))
+      abbrev other : (v ≡ 0 → ⊥)
+      other e = omega (arith, p .falls .size)
 
-      breaks : sound t count v ≡ false → firstBreak t count count 0 ≡ some v
-      breaks h = one-more ∙ cc
+      pub high-breaks : v ≤ up t v → firstBreak t count (count - 1) 1 ≡ some v
+      high-breaks h = sym (p .rest) ∙ breaks v v< (rw (ne-eqb v 0 other, sound, le-ltb (up t v) v h) refl)
 
-      passes : sound t count v ≡ true → firstBreak t count (count - (v + 1)) (v + 1) ≡ firstBreak t count count 0
-      passes h = sym (one-more ∙ cc)
-
-      -- the tests of a node that is not the root
-      abbrev smaller : Bool
-      smaller = ltb (up t v) v
-
-      abbrev near : Bool
-      near = leb (depth t v) maxDepth
-
-      abbrev few : Bool
-      few = leb (num t v) maxNumber
-
-      pub own-breaks : ownSound t count v ≡ false → firstBreak t count count 0 ≡ some v
-      own-breaks h = breaks (split v 0
-          (λ e. rw (eq-eqb v 0 e, sound) (swap (rootSound t) (links t count v) ∙ rw (eq-eqb v 0 e) at h))
-          (λ e. rw (ne-eqb v 0 e, sound) (own-fails smaller near few (links t count v) (rw (ne-eqb v 0 e) at h))))
-
-      module _ (own : ownSound t count v ≡ true) where
+      module _ (low : up t v < v) where
         pub falls-on : Falling t (v + 1)
-        falls-on = split v 0
-            (λ e. rw e (record {
-              size = omega arith;
-              root-up = eqb-true (up t 0) 0 (passed (eqb (up t 0) 0 ∷ eqb (tag t 0) 0 ∷ eqb (num t 0) 0 ∷ eqb (sib t 0) 0 ∷ [])
-                  (and-r (links t count v) (rootSound t) (rw (eq-eqb v 0 e) at own)) 0);
-              ups = λ w a b. absurd (omega arith);
-            }))
-            (λ e. let s = p .falls (omega arith) in record {
-              size = omega arith;
-              root-up = s .root-up;
-              ups = λ w a b. below-suc w v (omega arith) (λ h. s .ups w a h) (λ q. rw q (ltb-true (up t v) v
-                  (and-l smaller few (and-r (links t count v) (smaller && few) (rw (ne-eqb v 0 e) at own)))));
-            })
+        falls-on = record {
+          size = omega arith;
+          root-up = p .falls .root-up;
+          ups = λ w a b. below-suc w v (omega arith) (λ h. p .falls .ups w a h) (λ e. rw e low);
+        }
 
         module _ (d : ℕ) (d≡ : d ≡ depth t v) where
-          pub deep-breaks : maxDepth < d → firstBreak t count count 0 ≡ some v
-          deep-breaks h =
-              let e : v ≡ 0 → ⊥ = λ z. omega (arith, depth-le t v) in
-              breaks (rw (ne-eqb v 0 e, sound) (one-fails smaller near few (links t count v) (lt-leb (depth t v) maxDepth (omega arith))))
+          pub deep-breaks : maxDepth < d → firstBreak t count (count - 1) 1 ≡ some v
+          deep-breaks h = sym (p .rest) ∙ breaks v v< (rw (ne-eqb v 0 other, sound, lt-ltb (up t v) v low, lt-leb (depth t v) maxDepth (omega arith)) refl)
 
-          pub again : d ≤ maxDepth → Passing t count (v + 1) d
-          again h = record {
-            below = omega arith;
-            rest = passes (split v 0
-                (λ e. rw (eq-eqb v 0 e, sound) (swap (rootSound t) (links t count v) ∙ rw (eq-eqb v 0 e) at own))
-                (λ e. rw (ne-eqb v 0 e, sound)
-                (all-pass smaller near few (links t count v) (le-leb (depth t v) maxDepth (omega arith)) ∙ rw (ne-eqb v 0 e) at own)));
-            falls = λ _. falls-on;
-            before = let e : v + 1 - 1 ≡ v = omega arith in rw e d≡;
-          }
+          pub stands : d ≤ maxDepth → Standing t count v d
+          stands h = record { below = v<; rest = p .rest; falls = falls-on; deep-at = d≡; near = h; past = omega (arith, p .falls .size) }
+
+  module _ (v deep : ℕ) (p : Standing t count v deep) where
+    -- what is left to test of it
+    own : sound t count v ≡ ownSound t count v
+    own = rw (
+      ne-eqb v 0 (λ e. omega (arith, p .past)),
+      sound,
+      lt-ltb (up t v) v (p .falls .ups v (p .past) (omega arith)),
+      le-leb (depth t v) maxDepth (omega (arith, p .deep-at, p .near)),
+    ) refl
+
+    pub own-breaks : ownSound t count v ≡ false → firstBreak t count (count - 1) 1 ≡ some v
+    own-breaks h = sym (p .rest) ∙ breaks v (p .below) (own ∙ h)
+
+    pub again : ownSound t count v ≡ true → Passing t count (v + 1) deep
+    again h = record {
+      below = omega (arith, p .below);
+      rest = sym (passes v (p .below) (own ∙ h)) ∙ p .rest;
+      falls = p .falls;
+      before = let e : v + 1 - 1 ≡ v = omega arith in rw e (p .deep-at);
+    }
+
+    -- on to the next node, its first child
+    module _ (l : Chained t count v) (h : v + 1 < count) where
+      chained-own : ownSound t count v ≡ true
+      chained-own = rw (
+        le-leb (num t v) maxNumber (l .few),
+        l .child,
+        ne-eqb (v + 1) 0 (λ e. omega arith),
+        lt-ltb v (v + 1) (omega arith),
+        lt-ltb (v + 1) count h,
+        eq-eqb (up t (v + 1)) v (l .back),
+        l .aside,
+      ) refl
+
+      next-falls : Falling t (v + 1 + 1)
+      next-falls = record {
+        size = omega arith;
+        root-up = p .falls .root-up;
+        ups = λ w a b. below-suc w (v + 1) (omega arith) (λ k. p .falls .ups w a k) (λ e. rw e (omega (arith, l .back)));
+      }
+
+      stand-on : deep < maxDepth → Standing t count (v + 1) (deep + 1)
+      stand-on k = record {
+        below = h;
+        rest = sym (passes v (p .below) (own ∙ chained-own)) ∙ p .rest;
+        falls = next-falls;
+        deep-at = omega (arith, p .deep-at, depth-up t (v + 1) v next-falls (λ e. omega arith) (sym (l .back)) .1);
+        near = omega arith;
+        past = omega arith;
+      }
+
+  stands-on : (n v deep : ℕ) → Standing t count v deep → Chain t count v (v + n) → v + n < count → deep + n ≤ maxDepth
+      → Standing t count (v + n) (deep + n)
+  stands-on zero v deep p c h k =
+      let e : v + 0 ≡ v = omega arith in
+      let d : deep + 0 ≡ deep = omega arith in
+      rw (e, d) p
+  stands-on (suc n) v deep p c h k =
+      let e : v + suc n ≡ v + 1 + n = omega arith in
+      let d : deep + suc n ≡ deep + 1 + n = omega arith in
+      rw (e, d) (stands-on n (v + 1) (deep + 1)
+      (stand-on v deep p (c .each v (omega arith) (omega arith)) (omega arith) (omega arith))
+      (record { upward = omega arith; each = λ w a b. c .each w (omega arith) (omega arith) }) (omega arith) (omega arith))
+
+  pub stands-end : (v w deep : ℕ) → Standing t count v deep → Chain t count v w → w < count → deep + (w - v) ≤ maxDepth
+      → Standing t count w (deep + (w - v))
+  stands-end v w deep p c h k =
+      let e : v + (w - v) ≡ w = omega (arith, c .upward) in
+      rw e at (stands-on (w - v) v deep p (rw e c) (rw e h) k)

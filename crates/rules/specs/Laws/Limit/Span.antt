@@ -5,7 +5,7 @@ use mathlib.Core.Bool.{Bool}
 use mathlib.Core.List.{List, [], _∷_, _++_}
 use lib.Dec.{ltb}
 use lib.ListN.{length}
-use native.Mathlib.Nat.{pow-suc}
+use native.Mathlib.Nat.{pow-suc, pow-le-pow-right, lt-of-not-le}
 use native.Mathlib.Omega.{arith}
 use borrow.Author.Tests.{leb-true}
 use Rattle.rules.specs.Rules.{Stretch, leftOver, cut, kept}
@@ -15,6 +15,12 @@ use Rattle.rules.specs.Laws.Tests.{decide}
 pub cut-ge : {E : Type 0} (q : ℕ) (ss : List (Stretch E)) → q ≤ cut q ss
 cut-ge q [] = omega arith
 cut-ge q (s ∷ ss) = omega (arith, cut-ge q ss)
+
+-- powers of 4 up to 1,024
+pub four-few : (k : ℕ) → 4 ^ k ≤ 1024 → k ≤ 5
+four-few k h =
+    let l : k < 6 = lt-of-not-le (λ i. omega (arith, pow-le-pow-right {n = 4} (omega arith) {i = 6} {j = k} i)) in
+    omega arith
 
 -- none of them reaches past n
 abbrev pub Upto : {E : Type 0} → ℕ → List (Stretch E) → Type 0

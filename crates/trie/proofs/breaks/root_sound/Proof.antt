@@ -1,31 +1,43 @@
--- `root_sound` meets its contract, entry by entry.
-use mathlib.Core.Path.{sym, _∙_}
+-- `root_sound` meets its contract, entry by entry; a sibling that is 0 needs no test of its parent.
+use mathlib.Core.Path.{_≡_, refl, _∙_}
+use mathlib.Core.Bool.{Bool, true, false, _&&_}
 use borrow.Author.Tests.{eq-eqb, ne-eqb}
 use borrow.Author.Needs.{needs}
 use Rattle.trie.proofs.breaks.root_sound.Statement.{statement}
 use Rattle.trie.proofs.breaks.root_sound.Tie as tie
 
+alone : (b : Bool) → b ≡ (b && true)
+alone true = refl
+alone false = refl
+
 returns : tie.Need-returns
-returns c = simp (ne-eqb _ _ (λ e. c .if1 .taken (c .before .entry .ensures ∙ e)))
+returns c = simp (ne-eqb _ _ (c .if1 .taken))
 
 returns-2 : tie.Need-returns-2
-returns-2 c = simp (eq-eqb _ _ (sym (c .before .before .before .entry .ensures) ∙ c .before .before .if1 .left), ne-eqb _ _ (λ e. c .if2 .taken (c .before .label-at .ensures ∙ e)))
+returns-2 c = simp (eq-eqb _ _ (c .before .before .if1 .left), ne-eqb _ _ (c .if2 .taken))
 
 returns-3 : tie.Need-returns-3
-returns-3 c = simp (eq-eqb _ _ (sym (c .before .before .before .before .before .entry .ensures) ∙ c .before .before .before .before .if1 .left), eq-eqb _ _ (sym (c .before .before .before .label-at .ensures) ∙ c .before .before .if2 .left), ne-eqb _ _ (λ e. c .if3 .taken (c .before .entry2 .ensures ∙ e)))
+returns-3 c = simp (eq-eqb _ _ (c .before .before .before .before .if1 .left), eq-eqb _ _ (c .before .before .if2 .left), ne-eqb _ _ (c .if3 .taken))
 
 returns-4 : tie.Need-returns-4
-returns-4 c = simp (eq-eqb _ _ (sym (c .before .before .before .before .before .before .entry .ensures) ∙ c .before .before .before .before .before .if1 .left), eq-eqb _ _ (sym (c .before .before .before .before .label-at .ensures) ∙ c .before .before .before .if2 .left), eq-eqb _ _ (sym (c .before .before .entry2 .ensures) ∙ c .before .if3 .left), c .entry3 .ensures)
+returns-4 c = simp (eq-eqb _ _ (c .before .before .before .before .before .before .if1 .left), eq-eqb _ _ (c .before .before .before .before .if2 .left), eq-eqb _ _ (c .before .before .if3 .left), ne-eqb _ _ (c .if4 .taken))
+
+returns-5 : tie.Need-returns-5
+returns-5 c = rw (eq-eqb _ _ (c .before .before .before .before .before .before .before .before .before .if1 .left), eq-eqb _ _ (c .before .before .before .before .before .before .before .if2 .left), eq-eqb _ _ (c .before .before .before .before .before .if3 .left), eq-eqb _ _ (c .before .before .before .if4 .left), ← c .before .wide .ensures) (c .link-sound .ensures ∙ alone _)
 
 pub root-sound-spec : {M : Type 1} → statement M
 root-sound-spec =
     tie.close
     (tie.spec
-    (λ c κs. search needs)
+    (λ c. search needs)
     returns
-    (λ c κs. search needs)
+    (λ c. search needs)
     returns-2
-    (λ c κs. search needs)
+    (λ c. search needs)
     returns-3
+    (λ c. search needs)
+    returns-4
+    (λ c. search needs)
     (λ c κs. search needs)
-    returns-4)
+    (λ c κs. search needs)
+    returns-5)

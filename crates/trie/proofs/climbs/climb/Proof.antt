@@ -20,14 +20,17 @@ loop-holds : tie.Need-loop-holds Inv-loop μ-loop
 loop-holds c = record { below = omega arith; climbed = omega arith }
 
 -- a turn of the loop
-on : (c : tie.After-entry Inv-loop μ-loop) → (c .entry .result < c .before .before .loop .at)
-    × (c .before .before .loop .steps < c .before .before .before .before .args .node)
-    × Climbing (tables (c .before .before .before .before .args .parent .now) [] [] [] []) (c .before .before .before .before .args .node)
-    (c .entry .result) (c .before .before .loop .steps + 1)
+on : (c : tie.After-wide Inv-loop μ-loop) → (c .wide .result < c .before .before .before .loop .at)
+    × (c .before .before .before .loop .steps < c .before .before .before .before .before .args .node)
+    × Climbing (tables (c .before .before .before .before .before .args .parent .now) [] [] [] [])
+    (c .before .before .before .before .before .args .node) (c .wide .result) (c .before .before .before .loop .steps + 1)
 on c =
-    let a = c .before .before .before .before .args in
-    let l = c .before .before .loop in
-    climb-on (tables (a .parent .now) [] [] [] []) (a .node) (l .at) (l .steps) (c .entry .result) (c .before .before .before .before .pre) (l .inv) (c .before .loop-test .taken) (c .entry .ensures)
+    let a = c .before .before .before .before .before in
+    let l = c .before .before .before .loop in
+    climb-on (tables (a .args .parent .now) [] [] [] []) (a .args .node) (l .at) (l .steps) (c .wide .result) (a .pre .0) (l .inv) (c .before .before .loop-test .taken) (c .wide .ensures)
+
+shared-slice-read-wide : tie.Need-shared-slice-read-wide Inv-loop μ-loop
+shared-slice-read-wide c = search needs
 
 add-steps : tie.Need-add-steps Inv-loop μ-loop
 add-steps c = omega (arith, on c .1)
@@ -44,4 +47,14 @@ returns c = let e = ap (depth (tables (c .before .before .before .args .parent .
 pub climb-spec : {M : Type 1} → statement M
 climb-spec =
     tie.close
-    (tie.spec Inv-loop μ-loop loop-holds (λ c κs. search needs) add-steps loop-less loop-again returns)
+    (tie.spec
+    Inv-loop
+    μ-loop
+    loop-holds
+    (λ c. search needs)
+    shared-slice-read-wide
+    (λ c κs. search needs)
+    add-steps
+    loop-less
+    loop-again
+    returns)

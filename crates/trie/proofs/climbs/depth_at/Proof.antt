@@ -1,7 +1,7 @@
 -- `depth_at` meets its contract: a node lies one deeper than its parent.
 use Prim.Native.Nat.{_+_, _-_, _<_}
 use native.Mathlib.Omega.{arith}
-use mathlib.Core.Path.{_≡_, ap, sym}
+use mathlib.Core.Path.{_≡_, ap}
 use mathlib.Core.List.{[]}
 use borrow.Author.Needs.{needs}
 use Rattle.trie.specs.Tables.{Tables}
@@ -11,43 +11,30 @@ use Rattle.trie.specs.Laws.Testing.{falling-below, depth-up, depth-le}
 use Rattle.trie.proofs.climbs.depth_at.Statement.{statement}
 use Rattle.trie.proofs.climbs.depth_at.Tie as tie
 
-abbrev bare : tie.After-shared-slice-known → Tables
-bare c = tables (c .before .args .parent .now) [] [] [] []
-
-returns : tie.Need-returns
-returns c = sym (ap (depth (bare (c .before))) (c .if1 .taken))
+abbrev bare : tie.Start → Tables
+bare c = tables (c .args .parent .now) [] [] [] []
 
 -- the step up to the parent
-up : (c : tie.After-entry) → (c .entry .result < c .before .before .before .args .node)
-    × (depth (bare (c .before .before)) (c .before .before .before .args .node) ≡ depth (bare (c .before .before)) (c .entry .result) + 1)
-up c =
-    depth-up (bare (c .before .before)) (c .before .before .before .args .node) (c .entry .result) (c .before .before .before .pre .0)
-    (c .before .if1 .left) (c .entry .ensures)
+up : (c : tie.Start) → (c .args .above < c .args .node) × (depth (bare c) (c .args .node) ≡ depth (bare c) (c .args .above) + 1)
+up c = depth-up (bare c) (c .args .node) (c .args .above) (c .pre .0) (λ e. omega (arith, c .pre .2)) (c .pre .3)
 
 add-result : tie.Need-add-result
-add-result c = omega (arith, depth-le (bare (c .before .before .before)) (c .before .before .before .before .args .node - 1), c .before .before .before .before .pre .1)
+add-result c = let s = c .before .before in omega (arith, depth-le (bare s) (s .args .node - 1), s .pre .4)
 
 climb-requires : tie.Need-climb-requires
-climb-requires c κs = falling-below (bare (c .before .before .before)) (c .before .before .before .before .args .node + 1) (c .before .entry .result + 1) (c .before .before .before .before .pre .0) (omega arith) (omega (arith, up (c .before) .0))
+climb-requires c κs = let s = c .before .before in (
+  falling-below (bare s) (s .args .node + 1) (s .args .above + 1) (s .pre .0) (omega arith) (omega (arith, up s .0)),
+  omega (arith, up s .0, s .pre .1),
+)
 
 add-result-2 : tie.Need-add-result-2
-add-result-2 c = omega (arith, depth-le (bare (c .before .before .before .before)) (c .before .before .entry .result), c .climb .ensures, up (c .before .before) .0)
+add-result-2 c = let s = c .before .before .before in omega (arith, depth-le (bare s) (s .args .above), c .climb .ensures, up s .0)
+
+returns : tie.Need-returns
+returns c = let s = c .before .before in omega (arith, up s .1, ap (depth (bare s)) (c .if1 .taken), s .pre .4)
 
 returns-2 : tie.Need-returns-2
-returns-2 c = omega (arith, up (c .before) .1, ap (depth (bare (c .before .before .before))) (c .if2 .taken), c .before .before .before .before .pre .1)
-
-returns-3 : tie.Need-returns-3
-returns-3 c = omega (arith, up (c .before .before) .1, c .climb .ensures)
+returns-2 c = let s = c .before .before .before in omega (arith, up s .1, c .climb .ensures)
 
 pub depth-at-spec : {M : Type 1} → statement M
-depth-at-spec =
-    tie.close
-    (tie.spec
-    returns
-    (λ c κs. search needs)
-    (λ c. search needs)
-    add-result
-    climb-requires
-    add-result-2
-    returns-2
-    returns-3)
+depth-at-spec = tie.close (tie.spec (λ c. search needs) add-result climb-requires add-result-2 returns returns-2)

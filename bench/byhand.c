@@ -1,0 +1,141 @@
+#include "byhand.h"
+#include <string.h>
+
+enum { NODES = 16385, DEPTHS = 64 };
+
+static const uint8_t *last[256]; /* the last byte of each token */
+static size_t size[256], many;
+static uint8_t label[NODES];
+static uint16_t token[NODES], first[NODES], next[NODES];
+static uint16_t kids[256], skip[256], by_node[NODES], by_byte[DEPTHS * 256];
+
+static size_t body_length(uint8_t kind) { return kind <= 64 ? kind : (size_t)128 << (kind - 65); }
+
+/* Where the tokens stand, and the shortest one's length. */
+static size_t read_book(const uint8_t *book) {
+    size_t shortest = 1024;
+    many = 0;
+    for (size_t at = 0; book[at]; at += 1 + size[many++]) {
+        size[many] = body_length(book[at]);
+        last[many] = book + at + size[many];
+        if (size[many] < shortest) shortest = size[many];
+    }
+    return shortest;
+}
+
+static void build(void) {
+    size_t count = 1;
+    token[0] = first[0] = next[0] = 0;
+    for (size_t t = 0; t < many; t++) {
+        size_t node = 0;
+        for (size_t k = 0; k < size[t]; k++) {
+            uint8_t x = *(last[t] - k);
+            size_t at = first[node], before = 0;
+            while (at && label[at] != x) before = at, at = next[at];
+            if (!at) {
+                at = count++;
+                label[at] = x;
+                token[at] = first[at] = next[at] = 0;
+                if (before) next[before] = at;
+                else first[node] = at;
+            }
+            node = at;
+        }
+        token[node] = t + 1;
+    }
+    memset(kids, 0, sizeof kids);
+    for (size_t at = first[0]; at; at = next[at]) kids[label[at]] = at;
+}
+
+/* Rule 5: the smallest shift for which a token agrees with the d bytes before `end`. */
+static size_t node_shift(size_t shortest, const uint8_t *end, size_t d) {
+    size_t best = shortest;
+    for (size_t t = 0; t < many && best > 1; t++) {
+        for (size_t s = 1; s < best; s++) {
+            size_t over = size[t] <= s ? 0 : size[t] - s, k = 0;
+            if (over > d) over = d;
+            while (k < over && *(last[t] - k - s) == *(end - 1 - k)) k++;
+            if (k == over) best = s;
+        }
+    }
+    return best;
+}
+
+/* The same for the byte x left of d matched ones. */
+static size_t byte_shift(size_t shortest, size_t d, uint8_t x) {
+    size_t best = shortest;
+    for (size_t t = 0; t < many && best > 1; t++)
+        for (size_t s = 1; s < best; s++)
+            if (size[t] <= d + s || *(last[t] - d - s) == x) best = s;
+    return best;
+}
+
+static size_t shift_of(size_t shortest, const uint8_t *end, size_t node, size_t d, int closed, uint8_t x) {
+    size_t by = by_node[node], other;
+    if (!by) by = by_node[node] = node_shift(shortest, end, d);
+    if (!closed) return by;
+    if (d >= DEPTHS) {
+        other = byte_shift(shortest, d, x);
+    } else {
+        other = by_byte[256 * d + x];
+        if (!other) other = by_byte[256 * d + x] = byte_shift(shortest, d, x);
+    }
+    return other > by ? other : by;
+}
+
+byhand_found byhand_sweep(const uint8_t *book, const uint8_t *image, size_t n, uint32_t *ends, uint32_t *tokens, size_t room) {
+    struct {
+        size_t left, right;
+    } kept[5];
+    size_t used = 0, b = read_book(book), shortest = b;
+    byhand_found found = {0, 0};
+    build();
+    memset(skip, 0, sizeof skip);
+    memset(by_node, 0, sizeof by_node);
+    memset(by_byte, 0, sizeof by_byte);
+    while (b <= n) {
+        uint8_t x = image[b - 1];
+        size_t by, node, d = 0;
+        int closed = 0;
+        if (!used) {
+            while ((by = skip[x])) {
+                found.fetched++;
+                b += by;
+                if (b > n) return found;
+                x = image[b - 1];
+            }
+        }
+        node = kids[x];
+        if (!node) closed = 1;
+        while (node && !closed) {
+            d++;
+            if (token[node]) {
+                if (found.hits < room) ends[found.hits] = b, tokens[found.hits] = token[node];
+                found.hits++;
+            }
+            size_t at = first[node];
+            if (!at || d == b) break;
+            x = image[b - 1 - d];
+            while (at && label[at] != x) at = next[at];
+            if (at) node = at;
+            else closed = 1;
+        }
+        by = shift_of(shortest, image + b, node, d, closed, x);
+        if (!d && closed) skip[x] = by;
+        size_t low = b - d - closed, from = b - d, edge = from, k = 0;
+        found.fetched += b - low;
+        if (used || d >= 4 * by) {
+            for (size_t i = 0; i < used; i++) {
+                size_t left = kept[i].left, right = kept[i].right;
+                if (right > (left > low ? left : low)) found.fetched -= right - (left > low ? left : low);
+                if (left >= from) continue;
+                if (right > edge) edge = right;
+                if (4 * (b + by - right) <= right - left) kept[k++] = kept[i];
+            }
+            if (4 * by <= b - edge) kept[k].left = edge, kept[k++].right = b;
+            used = k;
+        }
+        b += by;
+    }
+    return found;
+}

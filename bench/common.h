@@ -1,0 +1,76 @@
+/* What the benchmarks share: the calls of the crate `timed`, the tables of random tokens, a plain pass over them, and the clock. */
+#include <stdint.h>
+#include <stdio.h>
+#include <stdlib.h>
+#include <time.h>
+
+#define TABLES(entry, byte) \
+    entry *parent, size_t parent_len, byte *label, size_t label_len, entry *token, size_t token_len, entry *first, size_t first_len, \
+        entry *next, size_t next_len
+#define READ TABLES(const uint16_t, const uint8_t)
+
+size_t timed_read(const uint8_t *book, size_t book_len);
+size_t timed_build(const uint8_t *book, size_t book_len, TABLES(uint16_t, uint8_t));
+size_t timed_test(READ, size_t count);
+size_t timed_carry(READ, size_t n, size_t shortest, size_t nodes);
+size_t timed_supply(READ, size_t n, size_t shortest, size_t nodes, size_t boundary, size_t node, size_t depth, uint8_t byte);
+
+enum { ENTRIES = 16385 };
+static uint8_t book[20000];
+static size_t book_len;
+static uint16_t parent[ENTRIES], token[ENTRIES], first[ENTRIES], next[ENTRIES];
+static uint8_t label[ENTRIES];
+static size_t nodes;
+static volatile uint64_t sink;
+
+#define LENT parent, ENTRIES, label, ENTRIES, token, ENTRIES, first, ENTRIES, next, ENTRIES
+
+/* `count` tokens of `size` bytes, random, so that they are different and share few endings. */
+static void make_book(size_t count, size_t size) {
+    uint8_t kind = size <= 64 ? size : size == 128 ? 65 : size == 256 ? 66 : size == 512 ? 67 : 68;
+    book_len = 0;
+    for (size_t i = 0; i < count; i++) {
+        book[book_len++] = kind;
+        for (size_t j = 0; j < size; j++) book[book_len++] = rand() >> 7;
+    }
+    book[book_len++] = 0;
+}
+
+static void build_tables(void) { nodes = timed_build(book, book_len, LENT); }
+
+static void test_tables(void) {
+    sink = timed_test(LENT, nodes);
+    if (sink != nodes) {
+        fprintf(stderr, "the built tables were refused\n");
+        exit(1);
+    }
+}
+
+/* Aligned, since where a short loop lies can make it a third slower. */
+__attribute__((noinline, aligned(64))) static void pass_tables(void) {
+    uint64_t sum = 0;
+    for (size_t v = 0; v < nodes; v++) sum = sum * 31 + parent[v] + label[v] + token[v] + first[v] + next[v];
+    sink = sum;
+}
+
+static double now(void) {
+    struct timespec t;
+    clock_gettime(CLOCK_MONOTONIC, &t);
+    return t.tv_sec + t.tv_nsec * 1e-9;
+}
+
+/* The least time of each run, in ten turns, since other work on the machine slows some; short runs are timed many at once. */
+static void least(void (*const runs[])(void), double *best, size_t count) {
+    size_t times = nodes < 2000 ? 1 + 20000 / (nodes + 10) : 1;
+    for (size_t i = 0; i < count; i++) best[i] = 1e9;
+    for (size_t turn = 0; turn < 10 * count; turn++) {
+        size_t i = turn % count;
+        double end = now() + 0.03;
+        do {
+            double from = now();
+            for (size_t j = 0; j < times; j++) runs[i]();
+            double took = (now() - from) / times;
+            if (took < best[i]) best[i] = took;
+        } while (now() < end);
+    }
+}

@@ -1,0 +1,58 @@
+/* Times one step of a sweep by single bytes, beside a plain pass over as many nodes, in one run. */
+#include "common.h"
+
+/* Tokens of one size, so that S is the size, and the nodes 1 to `size` are the first token's. */
+enum { IMAGE = 1 << 24 };
+static size_t size;
+static uint8_t stray_first, stray_last;
+
+/* A byte that leads to no child of the node. */
+static uint8_t stray(size_t node) {
+    for (int byte = 0; byte < 256; byte++) {
+        size_t at = first[node];
+        while (at != 0 && label[at] != byte) at = next[at];
+        if (at == 0) return byte;
+    }
+    fprintf(stderr, "node %zu has a child for each byte\n", node);
+    exit(1);
+}
+
+/* A step asks for a place from `low` on, and below `high`. */
+static void asked(size_t place, size_t low, size_t high) {
+    sink = place;
+    if (place >= low && place < high) return;
+    fprintf(stderr, "a step answered %zu\n", place);
+    exit(1);
+}
+
+/* The first step looks at the place before the boundary. */
+static void look(void) { asked(timed_carry(LENT, IMAGE, size, nodes), size - 1, size); }
+
+/* The first byte matches: on to a child, and a look at the place before. */
+static void match(void) { asked(timed_supply(LENT, IMAGE, size, nodes, size, 0, 0, label[1]), size - 2, size - 1); }
+
+/* The first byte matches no token: the round ends, rule 5 goes over all tokens, and the next round looks. */
+static void miss(void) { asked(timed_supply(LENT, IMAGE, size, nodes, size, 0, 0, stray_first), size, 2 * size); }
+
+/* The same at the last byte of a token. */
+static void late(void) { asked(timed_supply(LENT, IMAGE, size, nodes, size, size - 1, size - 1, stray_last), size, 2 * size); }
+
+int main(void) {
+    static const size_t cases[][2] = {{1, 5}, {16, 64}, {128, 8}, {16, 1024}, {256, 64}};
+    static void (*const runs[])(void) = {pass_tables, test_tables, look, match, miss, late};
+    printf("%-12s %7s %12s %17s %17s %17s %17s %17s\n", "book", "nodes", "pass", "test/pass", "look/pass", "match/pass", "miss/pass",
+           "late miss/pass");
+    for (size_t i = 0; i < sizeof cases / sizeof *cases; i++) {
+        double took[6];
+        size = cases[i][1];
+        make_book(cases[i][0], size);
+        build_tables();
+        stray_first = stray(0);
+        stray_last = stray(size - 1);
+        least(runs, took, 6);
+        printf("%4zu x %-5zu %7zu %9.3f us", cases[i][0], size, nodes, took[0] * 1e6);
+        for (size_t j = 1; j < 6; j++) printf(" %9.3f us %4.1f", took[j] * 1e6, took[j] / took[0]);
+        printf("\n");
+    }
+    return 0;
+}

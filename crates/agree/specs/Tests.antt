@@ -1,0 +1,19 @@
+-- Rule 5 for one token, and the least shift of some tokens.
+use Prim.Native.Nat.{ℕ, _-_}
+use mathlib.Core.Bool.{Bool}
+use mathlib.Core.List.{List}
+use lib.ListN.{length}
+use Rattle.rules.specs.Lists.{any, every, least}
+use Rattle.rules.specs.Tokens.{fromRight, agrees}
+
+-- Token w, moved s to the right, agrees with each matched byte.
+abbrev pub nodeTest : List ℕ → List ℕ → ℕ → Bool
+nodeTest u w s = every (length u) (λ k. agrees w s k (fromRight u k))
+
+-- It agrees with the byte x that d matched ones lie right of.
+abbrev pub byteTest : ℕ → ℕ → List ℕ → ℕ → Bool
+byteTest d x w s = agrees w s d x
+
+-- The smallest shift below S for which one of the tokens passes, or S.
+abbrev pub leastOf : (List ℕ → ℕ → Bool) → List (List ℕ) → ℕ → ℕ
+leastOf p tokens S = least (λ s. any (λ w. p w s) tokens) 1 (S - 1)

@@ -1,0 +1,2 @@
+-- Answers as numbers, for C.
+pub mod Numbers

@@ -1,0 +1,103 @@
+-- The loop of all rounds: the buffers hold the hits found so far, and the caches are right.
+use Prim.Native.Nat.{ℕ, zero, suc, _+_, _≤_, _<_}
+use native.Mathlib.Omega.{arith}
+use mathlib.Core.Path.{_≡_, refl, ap, sym, _∙_}
+use mathlib.Core.List.{List, [], _∷_, _++_, map, map-append}
+use lib.ListN.{length, take, length-map}
+use Rattle.trie.specs.Tables.{over}
+use Rattle.image.specs.declared.standing.Standing.{Standing}
+use Rattle.image.specs.Image.{room, hitsOf, fetchesOf, noted}
+use Rattle.image.specs.Spans.{inUse}
+use Rattle.image.specs.Rule5.{tokensOf}
+use Rattle.image.specs.Walk.{notes}
+use Rattle.image.specs.Sweeping.{Given, Stands, Known, Goes, Caches}
+use Rattle.image.specs.Laws.Notes.{notes-length, notes-append, notes-over}
+use Rattle.image.specs.Laws.Sweeping.{begins, all-found, all-fetched}
+
+-- A part of the hits found lies in a buffer.
+module _ (part : ℕ × ℕ → ℕ) (r : ℕ) where
+  part-on : (found more : List (ℕ × ℕ)) (n s : ℕ) (l₀ l l′ : List ℕ) → n ≡ length found → s ≡ r → l ≡ notes r 0 (map part found) l₀
+      → l′ ≡ notes s n (map part more) l → l′ ≡ notes r 0 (map part (found ++ more)) l₀
+  part-on found more n s l₀ l l′ e same p q =
+      let z : 0 + length (map part found) ≡ n = omega (arith, length-map found part) in
+      q ∙ ap (λ s. notes s n (map part more) l) same
+      ∙ ap (notes r n (map part more)) p
+      ∙ ap (λ i. notes r i (map part more) (notes r 0 (map part found) l₀)) (sym z)
+      ∙ sym (notes-append r 0 (map part found) (map part more) l₀)
+      ∙ ap (λ xs. notes r 0 xs l₀) (sym (map-append part found more))
+
+  take-part : (n : ℕ) (found : List (ℕ × ℕ)) → take n (map part found) ≡ map part (take n found)
+  take-part zero found = refl
+  take-part (suc n) [] = refl
+  take-part (suc n) (h ∷ found) = cc (take-part n found)
+
+  part-done : (found all : List (ℕ × ℕ)) (l₀ l : List ℕ) → r ≤ length l₀ → found ≡ all → l ≡ notes r 0 (map part found) l₀ → l ≡ noted part r all l₀
+  part-done found all l₀ l h e p =
+      p ∙ notes-over r (map part found) l₀ h ∙ ap (λ xs. over xs l₀) (take-part r found ∙ ap (λ f. map part (take r f)) e)
+
+-- These hits are found; the buffers hold as many as there is room for.
+pub record Rounding (book image : List ℕ) (shortest : ℕ) (ends₀ tokens₀ ends tokens nodes bytes skip : List ℕ) (at : Standing) : Type 0 where
+  pub found : List (ℕ × ℕ)
+  pub stands : Stands book image at found
+  pub caches : Caches book shortest nodes bytes skip
+  pub ends-hold : ends ≡ notes (room ends₀ tokens₀) 0 (map (λ h. h .0) found) ends₀
+  pub tokens-hold : tokens ≡ notes (room ends₀ tokens₀) 0 (map (λ h. h .1) found) tokens₀
+
+pub rounding-begins : {book image label token first next : List ℕ} {count shortest : ℕ} {nodes bytes skip : List ℕ} {at : Standing} (ends tokens : List ℕ)
+    → Given book image label token first next count shortest → Caches book shortest nodes bytes skip
+    → at .boundary ≡ shortest → (inUse (at .spans) ≡ []) × (at .spans .used ≡ 0) → (at .fetched ≡ 0) × (at .hits ≡ 0)
+    → Rounding book image shortest ends tokens ends tokens nodes bytes skip at
+rounding-begins {book} {image} {at = at} ends tokens g c e u z = record {
+  found = [];
+  stands = begins book image at (g .read .read) (e ∙ g .read .short) (u .0) (u .1) (z .0) (z .1);
+  caches = c;
+  ends-hold = refl;
+  tokens-hold = refl;
+}
+
+module _ {book image : List ℕ} {shortest : ℕ} {ends₀ tokens₀ ends tokens nodes bytes skip : List ℕ} {at : Standing}
+    (l : Rounding book image shortest ends₀ tokens₀ ends tokens nodes bytes skip at) where
+  pub ends-long : length ends ≡ length ends₀
+  ends-long = ap length (l .ends-hold) ∙ notes-length (room ends₀ tokens₀) 0 (map (λ h. h .0) (l .found)) ends₀
+
+  pub tokens-long : length tokens ≡ length tokens₀
+  tokens-long = ap length (l .tokens-hold) ∙ notes-length (room ends₀ tokens₀) 0 (map (λ h. h .1) (l .found)) tokens₀
+
+  pub known : Known book image at
+  known = record { found = l .found; stands = l .stands }
+
+  pub rounding-again : {after : Standing} {ends′ tokens′ nodes′ bytes′ skip′ : List ℕ}
+      → Goes book image at after (room ends tokens) ends ends′ tokens tokens′ → Caches book shortest nodes′ bytes′ skip′
+      → Rounding book image shortest ends₀ tokens₀ ends′ tokens′ nodes′ bytes′ skip′ after
+  rounding-again {ends′ = ends′} {tokens′} g c =
+      let r : room ends tokens ≡ room ends₀ tokens₀ = omega (arith, ends-long, tokens-long) in
+      record {
+        found = l .found ++ g .more;
+        stands = g .stands (l .found) (l .stands);
+        caches = c;
+        ends-hold = part-on (λ h. h .0) (room ends₀ tokens₀) (l .found) (g .more) (at .hits) (room ends tokens) ends₀ ends ends′
+            (l .stands .counted) r (l .ends-hold) (g .ends-hold);
+        tokens-hold = part-on (λ h. h .1) (room ends₀ tokens₀) (l .found) (g .more) (at .hits) (room ends tokens) tokens₀ tokens tokens′
+            (l .stands .counted) r (l .tokens-hold) (g .tokens-hold);
+      }
+
+  -- what the contract says at the end
+  abbrev pub Done : Type 0
+  Done = (at .hits ≡ length (hitsOf (tokensOf book) image))
+      × ((at .fetched ≡ fetchesOf (tokensOf book) image)
+      × ((ends ≡ noted (λ h. h .0) (room ends₀ tokens₀) (hitsOf (tokensOf book) image) ends₀)
+      × (tokens ≡ noted (λ h. h .1) (room ends₀ tokens₀) (hitsOf (tokensOf book) image) tokens₀)))
+
+  pub rounding-done : length image < at .boundary → Done
+  rounding-done h =
+      let e = all-found book image at (l .found) (l .stands) h in
+      let all = hitsOf (tokensOf book) image in (
+        l .stands .counted ∙ ap length e,
+        (
+          all-fetched book image at (l .found) (l .stands) h,
+          (
+            part-done (λ h. h .0) (room ends₀ tokens₀) (l .found) all ends₀ ends (omega arith) e (l .ends-hold),
+            part-done (λ h. h .1) (room ends₀ tokens₀) (l .found) all tokens₀ tokens (omega arith) e (l .tokens-hold),
+          ),
+        ),
+      )

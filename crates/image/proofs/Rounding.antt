@@ -1,0 +1,132 @@
+-- A round as a whole: what its calls ask and what their answers amount to; the same for rounds that are skimmed, and the one after them.
+use Prim.Native.Nat.{ℕ, suc, _+_, _^_, _≤_, _<_}
+use native.Mathlib.Omega.{arith}
+use mathlib.Core.Path.{_≡_, refl, ap, sym, subst, _∙_}
+use mathlib.Core.Bool.{false}
+use mathlib.Core.List.{List, [], _++_, map, append-nil}
+use mathlib.Core.Option.{Option, some, none}
+use lib.ListN.{length}
+use Rattle.rules.specs.Rules.{Tree}
+use Rattle.rules.specs.Tokens.{shortestOf}
+use Rattle.book.specs.Laws.Accepted.{accepted-fit, accepted-some}
+use Rattle.trie.specs.Tables.{Tables}
+use Rattle.trie.specs.Answers.{tables}
+use Rattle.image.specs.declared.standing.Standing.{Standing}
+use Rattle.image.specs.declared.walk.Arrival.{Arrival}
+use Rattle.image.specs.Rounds.{reached, met}
+use Rattle.image.specs.Rule5.{tokensOf, closingOf, BySkip}
+use Rattle.image.specs.Walk.{treeIn, Walkable, stopOf, arrivalOf, notes}
+use Rattle.image.specs.Sweeping.{Given, Stands, Known, Goes, Caches, Arrives, Turned, Skimmable, Skimmed}
+use Rattle.image.specs.Laws.Round.{unmet-none}
+use Rattle.image.specs.Laws.Tables.{walkable, reached-same, met-same}
+use Rattle.image.specs.Laws.Sweeping.{hits-small, raised, turns}
+
+-- A round that met no token puts nothing into the buffers.
+pub meets-none : (tree : Tree ℕ) (image : List ℕ) (b hits room : ℕ) (ends tokens : List ℕ)
+    → (arrival : Arrival) → arrival ≡ arrivalOf (reached tree image b) → arrival .marked ≡ false
+    → (hits ≡ hits + length (met tree image b))
+    × ((ends ≡ notes room hits (map (λ h. h .0) (met tree image b)) ends) × (tokens ≡ notes room hits (map (λ h. h .1) (met tree image b)) tokens))
+meets-none tree image b hits room ends tokens arrival e h =
+    let unmarked : reached tree image b .marked ≡ false = sym (ap (λ (r : Arrival). r .marked) e) ∙ h in
+    subst
+    (λ found. (hits ≡ hits + length found)
+    × ((ends ≡ notes room hits (map (λ h. h .0) found) ends) × (tokens ≡ notes room hits (map (λ h. h .1) found) tokens)))
+    (sym (unmet-none tree image b (suc b) (tree .root) 0 false unmarked .1))
+    (omega arith, (refl, refl))
+
+closing-stop : (o : Option ℕ) → closingOf (stopOf o) ≡ o
+closing-stop none = refl
+closing-stop (some x) = refl
+
+module _ {book image label token first next : List ℕ} {count shortest : ℕ} (g : Given book image label token first next count shortest) where
+  abbrev t : Tables
+  t = tables (g .parent) label token first next
+
+  abbrev S : ℕ
+  S = shortestOf (tokensOf book)
+
+  -- What the tables and the place are to a round.
+  pub tables-walk : Walkable label token first next count
+  tables-walk =
+      let ts = tokensOf book in
+      walkable ts S t count (g .stands) (accepted-fit book ts (g .read .read)) (accepted-some book ts (g .read .read))
+
+  module _ {at : Standing} (k : Known book image at) (h : at .boundary ≤ length image) where
+    abbrev b : ℕ
+    b = at .boundary
+
+    abbrev here : Tree ℕ
+    here = treeIn label token first next count
+
+    pub round-place : (0 < b) × (b ≤ length image) × (b ≤ 16777216) × (at .hits ≤ 2 ^ 36)
+    round-place =
+        (omega (arith, k .stands .positive), h, omega (arith, g .within), hits-small book image at (k .found) (k .stands) (g .within))
+
+    -- Where it ends is where a round of the tokens ends.
+    pub round-arrives : (arrival : Arrival) → arrival ≡ arrivalOf (reached here image b) → Arrives book image shortest at arrival
+    round-arrives arrival e =
+        let s = reached-same (tokensOf book) S t count (g .stands) image b in
+        subst (Arrives book image shortest at) (sym e)
+        (record {
+          read = g .read;
+          within = g .within;
+          known = k;
+          place = h;
+          below = omega (arith, s .below, g .nodes);
+          named = g .stands .named (reached here image b .node) (s .below) ∙ s .node;
+          deep = s .depth;
+          closing = closing-stop (reached here image b .closing) ∙ s .closing;
+        })
+
+    -- And it goes on from there with what it met.
+    module _ {after : Standing} {hits : ℕ} (w : Turned book image at after hits) where
+      pub round-goes : hits ≡ at .hits + length (met here image b) → (room : ℕ) (ends ends′ tokens tokens′ : List ℕ)
+          → ends′ ≡ notes room (at .hits) (map (λ h. h .0) (met here image b)) ends
+          → tokens′ ≡ notes room (at .hits) (map (λ h. h .1) (met here image b)) tokens → Goes book image at after room ends ends′ tokens tokens′
+      round-goes n room ends ends′ tokens tokens′ e q =
+          let same = met-same (tokensOf book) S t count (g .stands) image b in
+          record {
+            more = met here image b;
+            stands = λ found s.
+                rw same (turns book image at found s h after (w .boundary) (w .spans) (w .few) (w .fetched) (w .counted ∙ rw same at n));
+            ends-hold = e;
+            tokens-hold = q;
+          }
+
+      pub round-up : b < after .boundary
+      round-up = omega (arith, w .boundary, raised book image at (k .found) (k .stands) h)
+
+  module _ {skip nodes bytes : List ℕ} (c : Caches book shortest nodes bytes skip) where
+    skip-right : BySkip book S skip
+    skip-right = subst (λ n. BySkip book n skip) (g .read .short) (c .by-skip)
+
+    module _ {at : Standing} (k : Known book image at) where
+      -- With nothing remembered, rounds can be skimmed,
+      pub skims : at .spans .used ≡ 0 → Skimmable image skip at
+      skims u = record { book = book; known = k; within = g .within; right = skip-right; none = u }
+
+      module _ {on : Standing} (s : Skimmed image skip at on) where
+        skimmed-stands : (found : List (ℕ × ℕ)) → Stands book image at found → Stands book image on found
+        skimmed-stands = s .stands book skip-right
+
+        pub skimmed-known : Known book image on
+        skimmed-known = record { found = k .found; stands = skimmed-stands (k .found) (k .stands) }
+
+        -- and that finds nothing,
+        pub skimmed-goes : (room : ℕ) (ends tokens : List ℕ) → Goes book image at on room ends ends tokens tokens
+        skimmed-goes room ends tokens = record {
+          more = [];
+          stands = λ found s. rw append-nil (skimmed-stands found s);
+          ends-hold = refl;
+          tokens-hold = refl;
+        }
+
+        -- so that what a round then finds is all.
+        pub skimmed-on : (after : Standing) (room : ℕ) (ends ends′ tokens tokens′ : List ℕ)
+            → Goes book image on after room ends ends′ tokens tokens′ → Goes book image at after room ends ends′ tokens tokens′
+        skimmed-on after room ends ends′ tokens tokens′ o = record {
+          more = o .more;
+          stands = λ found l. o .stands found (skimmed-stands found l);
+          ends-hold = rw (s .counted) at (o .ends-hold);
+          tokens-hold = rw (s .counted) at (o .tokens-hold);
+        }

@@ -1,0 +1,86 @@
+-- `rule5::byte_shift` meets its contract: the best so far is that of the records passed.
+use Prim.Native.Nat.{_+_, _-_, _≤_}
+use native.Mathlib.Omega.{arith}
+use borrow.Author.Needs.{needs}
+use lib.ListN.{length}
+use Rattle.agree.specs.Tests.{byteTest}
+use Rattle.book.specs.Laws.Taken.{whole-inside}
+use Rattle.image.proofs.Passing.{Passed, passed-none, passed-more, passed-all}
+use Rattle.image.proofs.rule5.byte_shift.Statement.{statement}
+use Rattle.image.proofs.rule5.byte_shift.Tie as tie
+
+abbrev Inv-loop : tie.InvT-loop
+Inv-loop book depth x shortest best₀ at₀ best at = Passed (byteTest depth x) book shortest best at
+
+abbrev μ-loop : tie.MeasureT-loop
+μ-loop book depth x shortest best₀ at₀ best at = length book - at
+
+loop-holds : tie.Need-loop-holds Inv-loop μ-loop
+loop-holds c = let a = c .before .args in passed-none (byteTest (a .depth) (a .x)) (c .before .pre)
+
+add-loop : tie.Need-add-loop Inv-loop μ-loop
+add-loop c = search needs
+
+add-start : tie.Need-add-start Inv-loop μ-loop
+add-start c = search needs
+
+body-at-requires : tie.Need-body-at-requires Inv-loop μ-loop
+body-at-requires c κs = search needs
+
+-- The record ends within the book.
+ends : (c : tie.After-body-at Inv-loop μ-loop)
+    → c .before .before .loop .at + 1 + c .body-at .result ≤ length (c .before .before .before .before .args .book .now)
+ends c =
+    rw (c .body-at .ensures)
+    (whole-inside (c .before .before .before .before .args .book .now) (c .before .before .loop .at) (omega arith))
+
+add-end : tie.Need-add-end Inv-loop μ-loop
+add-end c = omega (arith, ends c)
+
+sub-byte-least : tie.Need-sub-byte-least Inv-loop μ-loop
+sub-byte-least c = search needs
+
+part-byte-least-start : tie.Need-part-byte-least-start Inv-loop μ-loop
+part-byte-least-start c = search needs
+
+part-byte-least-end : tie.Need-part-byte-least-end Inv-loop μ-loop
+part-byte-least-end c = omega (arith, ends c)
+
+byte-least-requires : tie.Need-byte-least-requires Inv-loop μ-loop
+byte-least-requires c κs = search needs
+
+loop-less : tie.Need-loop-less Inv-loop μ-loop
+loop-less c = search needs
+
+loop-again : tie.Need-loop-again Inv-loop μ-loop
+loop-again c =
+    let s = c .before .before .before .before .before .before in
+    let a = s .args in
+    let n = c .before .before .body-at in
+    passed-more (byteTest (a .depth) (a .x)) (s .pre) (c .before .before .before .before .loop .inv) (c .before .before .before .loop-test .taken)
+    (n .result) (n .ensures) (c .byte-least .result) (c .byte-least .ensures)
+
+returns : tie.Need-returns Inv-loop μ-loop
+returns c =
+    let s = c .before .before .before in
+    let a = s .args in
+    passed-all (byteTest (a .depth) (a .x)) (s .pre) (c .before .loop .inv) (c .loop-test .left)
+
+pub byte-shift-spec : {M : Type 1} → statement M
+byte-shift-spec =
+    tie.close
+    (tie.spec
+    Inv-loop
+    μ-loop
+    loop-holds
+    add-loop
+    add-start
+    body-at-requires
+    add-end
+    sub-byte-least
+    part-byte-least-start
+    part-byte-least-end
+    byte-least-requires
+    loop-less
+    loop-again
+    returns)

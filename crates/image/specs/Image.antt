@@ -1,0 +1,67 @@
+-- The sweep of a whole image at hand: refusals 1 to 8 and 12, the hits, and the number of bytes fetched, by the rules over the tokens.
+use Prim.Native.Nat.{ℕ, _+_, min}
+use mathlib.Core.Bool.{Bool, true, false}
+use mathlib.Core.List.{List, map}
+use lib.Dec.{ltb}
+use lib.ListN.{length, take}
+use Rattle.rules.specs.Tokens.{total}
+use Rattle.rules.specs.Sweep.{happens, bytesOf, places, hits}
+use Rattle.book.specs.Book.{Verdict, accepted, refused, readBook, maxImage}
+use Rattle.trie.specs.Tables.{Tables, built, over, written, tooShort}
+
+-- The numbers of hits and of bytes fetched.
+pub record Found : Type 0 where
+  pub hits : ℕ
+  pub fetched : ℕ
+
+-- What the sweep answers, and what the lent tables and hit buffers then hold.
+pub record Swept : Type 0 where
+  pub answer : Verdict Found
+  pub tables : Tables
+  pub ends : List ℕ
+  pub tokens : List ℕ
+
+-- Refusal 8: the image is over its limit.
+abbrev pub tooLong : List ℕ → Bool
+tooLong image = ltb maxImage (length image)
+
+-- What the hit buffers hold: as many hits as the shorter one has entries.
+abbrev pub room : List ℕ → List ℕ → ℕ
+room ends tokens = min (length ends) (length tokens)
+
+-- The hits of tokens in an image, and how many bytes are fetched to find them.
+abbrev pub hitsOf : List (List ℕ) → List ℕ → List (ℕ × ℕ)
+hitsOf tokens image = hits (happens tokens (length image) (bytesOf image))
+
+abbrev pub fetchesOf : List (List ℕ) → List ℕ → ℕ
+fetchesOf tokens image = length (places (happens tokens (length image) (bytesOf image)))
+
+-- Refusal 12: there are more hits than the shorter buffer holds.
+abbrev pub counted : ℕ → ℕ → ℕ → Verdict Found
+counted room all fetched =
+    elim (ltb room all) [ true ↦ refused 12 all | false ↦ accepted (record { hits = all; fetched = fetched }) ]
+
+-- The hits' ends, or their token numbers, from a buffer's front on; what follows them stays.
+abbrev pub noted : (ℕ × ℕ → ℕ) → ℕ → List (ℕ × ℕ) → List ℕ → List ℕ
+noted part room found buffer = over (map part (take room found)) buffer
+
+-- 1 to 6, 7, 8: nothing is touched. Then the tables are built, and the buffers hold the hits, also after 12.
+abbrev pub sweepImage : List ℕ → List ℕ → Tables → List ℕ → List ℕ → Swept
+sweepImage book image t ends numbers =
+    elim (readBook book) [
+      | refused k v ↦ record { answer = refused k v; tables = t; ends = ends; tokens = numbers }
+      | accepted tokens ↦ elim (tooShort t tokens) [
+        | true ↦ record { answer = refused 7 (1 + total tokens); tables = t; ends = ends; tokens = numbers }
+        | false ↦ elim (tooLong image) [
+          | true ↦ record { answer = refused 8 maxImage; tables = t; ends = ends; tokens = numbers }
+          | false ↦ (let found = hitsOf tokens image in
+              let r = room ends numbers in
+              record {
+                answer = counted r (length found) (fetchesOf tokens image);
+                tables = written (built tokens) t;
+                ends = noted (λ h. h .0) r found ends;
+                tokens = noted (λ h. h .1) r found numbers;
+              })
+        ]
+      ]
+    ]

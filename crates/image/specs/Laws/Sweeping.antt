@@ -1,0 +1,182 @@
+-- A sweep round by round: how it begins, what a round does, where it ends, and that its counts stay small.
+use Prim.Native.Nat.{ℕ, suc, _+_, _-_, _*_, _≤_, _<_, _^_}
+use native.Mathlib.Omega.{arith}
+use native.Mathlib.Nat.{mul-le-mul}
+use mathlib.Core.Path.{_≡_, refl, ap, sym, subst, _∙_}
+use mathlib.Core.List.{List, [], _∷_, _++_}
+use mathlib.Core.Bool.{false}
+use lib.ListN.{length, take, drop, length-append}
+use Rattle.rules.specs.Rules.{Stretch}
+use Rattle.rules.specs.Tokens.{ofTokens, shiftOf, shortestOf, longestOf}
+use Rattle.rules.specs.Sweep.{happens}
+use Rattle.rules.specs.Laws.All.{All}
+use Rattle.rules.specs.Laws.Limit.Count.{loose}
+use Rattle.rules.specs.Laws.Exact.Shift.{shift-ge, shift-upto}
+use Rattle.book.specs.Book.{readBook, accepted, maxImage, maxBody}
+use Rattle.rules.specs.Laws.Lengths.{shortest-is}
+use Rattle.book.specs.Laws.Accepted.{accepted-setting, accepted-longest, accepted-some, accepted-fit}
+use Rattle.image.specs.declared.standing.Standing.{Standing}
+use Rattle.image.specs.Image.{hitsOf, fetchesOf}
+use Rattle.image.specs.Rounds.{Reached, reached, met, lowest}
+use Rattle.image.specs.Spans.{Places, placesOf, inUse, renewed, Before, Fits}
+use Rattle.image.specs.Rule5.{tokensOf}
+use Rattle.image.specs.Sweeping.{Stands}
+use Rattle.image.specs.Laws.Round.{Starts, Round, fetchesFrom, hitsFrom, ending, raise, afterwards, round, first-starts, none-fetched, none-found, fetches-few, hits-few}
+use Rattle.image.specs.Laws.Spans.{loose-places, ended-places, spans-fit, spans-few}
+
+append-bare : {A : Type 0} (l : List A) → l ++ [] ≡ l
+append-bare [] = refl
+append-bare (x ∷ l) = cc (append-bare l)
+
+append-assoc : {A : Type 0} (l m n : List A) → (l ++ m) ++ n ≡ l ++ (m ++ n)
+append-assoc [] m n = refl
+append-assoc (x ∷ l) m n = cc (append-assoc l m n)
+
+module _ (book image : List ℕ) where
+  abbrev ts : List (List ℕ)
+  ts = tokensOf book
+
+  abbrev S : ℕ
+  S = shortestOf ts
+
+  abbrev D : ℕ
+  D = longestOf ts
+
+  short-upto : readBook book ≡ accepted ts → S ≤ maxBody
+  short-upto read = let s = shortest-is ts (accepted-some book ts read) in omega (arith, accepted-fit book ts read .each (s .0) (s .1))
+
+  -- At the start nothing is found.
+  pub begins : (at : Standing) → readBook book ≡ accepted ts → at .boundary ≡ S → inUse (at .spans) ≡ [] → at .spans .used ≡ 0 → at .fetched ≡ 0
+      → at .hits ≡ 0 → Stands book image at []
+  unfolding happens
+  begins at read e u w f h =
+      let setting = accepted-setting book ts read in
+      let fuel = suc (length image) * (D + 2) in
+      record {
+        read = read;
+        stretches = [];
+        fuel = fuel;
+        count = 0;
+        starts = rw e (first-starts ts S D setting image);
+        remembered = u;
+        few = omega arith;
+        finds = rw e refl;
+        fetches = let z : fetchesFrom ts S D setting image fuel 0 (at .boundary) [] ≡ fetchesOf ts image = rw e refl in omega (arith, f);
+        counted = h;
+        positive = omega (arith, e, setting .positive);
+        near = omega (arith, e, short-upto read);
+      }
+
+  -- All that is fetched and found is little enough to count.
+  module _ (read : readBook book ≡ accepted ts) (small : length image ≤ maxImage) where
+    steps-small : suc (length image) * (D + 2) ≤ 16777217 * 1026
+    steps-small = mul-le-mul {n₁ = suc (length image)} {m₁ = D + 2} {n₂ = 16777217} {m₂ = 1026} (omega arith) (omega (arith, accepted-longest book ts read))
+
+    few-hits : length (hitsOf ts image) ≤ 16777217 * 1026
+    unfolding happens
+    few-hits =
+        let fuel = suc (length image) * (D + 2) in
+        omega (arith, hits-few ts S D (accepted-setting book ts read) image S [] fuel 0, steps-small)
+
+    few-fetches : fetchesOf ts image ≤ 16777217 * 1026
+    unfolding happens
+    few-fetches =
+        let fuel = suc (length image) * (D + 2) in
+        omega (arith, fetches-few ts S D (accepted-setting book ts read) image S [] fuel 0, steps-small)
+
+  module _ (at : Standing) (found : List (ℕ × ℕ)) (s : Stands book image at found) where
+    -- Past the image all is found, and all was fetched.
+    pub all-found : length image < at .boundary → found ≡ hitsOf ts image
+    all-found h =
+        let setting = accepted-setting book ts (s .read) in
+        sym (append-bare found)
+        ∙ ap (λ l. found ++ l) (sym (none-found ts S D setting image (at .boundary) (s .stretches) (s .fuel) (s .count) h))
+        ∙ s .finds
+
+    pub all-fetched : length image < at .boundary → at .fetched ≡ fetchesOf ts image
+    all-fetched h =
+        let setting = accepted-setting book ts (s .read) in
+        omega (arith, s .fetches, none-fetched ts S D setting image (at .boundary) (s .stretches) (s .fuel) (s .count) h)
+
+    -- What the code asks of the counts and of the stretches.
+    module _ (small : length image ≤ maxImage) where
+      pub hits-small : at .hits ≤ 2 ^ 36
+      hits-small =
+          let l = ap length (s .finds) in
+          omega (arith, s .counted, rw length-append at l, few-hits (s .read) small)
+
+      pub fetched-small : at .fetched ≤ 2 ^ 36
+      fetched-small = omega (arith, s .fetches, few-fetches (s .read) small)
+
+      pub stands-fit : Fits (at .boundary) (at .spans)
+      stands-fit = record {
+        few = s .few;
+        each = rw (s .remembered) (spans-fit D (at .boundary) 0 (s .stretches) (omega (arith, s .near)) (s .starts .spans));
+      }
+
+    -- A round.
+    module _ (h : at .boundary ≤ length image) where
+      abbrev b : ℕ
+      b = at .boundary
+
+      abbrev r : Reached (List ℕ)
+      r = reached (ofTokens ts S) image b
+
+      abbrev by : ℕ
+      by = shiftOf ts S (r .node) (r .closing)
+
+      turn : Round ts S D (accepted-setting book ts (s .read)) image b (s .stretches) (s .fuel) (s .count)
+      turn = round ts S D (accepted-setting book ts (s .read)) image b (s .stretches) (s .fuel) (s .count) (s .starts) h
+
+      abbrev ss : List (Stretch (List ℕ))
+      ss = afterwards ts S D (accepted-setting book ts (s .read)) image b (s .stretches)
+
+      after-places : placesOf ss ≡ renewed (b - r .depth) b (b + by) (inUse (at .spans))
+      after-places =
+          ended-places (ofTokens ts S) (record { boundary = b; node = r .node; depth = r .depth; stretches = s .stretches }) by
+          ∙ ap (renewed (b - r .depth) b (b + by)) (sym (s .remembered))
+
+      pub renewed-few : length (renewed (b - r .depth) b (b + by) (inUse (at .spans))) ≤ 5
+      renewed-few =
+          let d = accepted-longest book ts (s .read) in
+          subst (λ l. length l ≤ 5) after-places (spans-few D (b + by) ss (d .0) (d .1) (turn .starts .spans))
+
+      loose-same : loose b (lowest b r) (inUse (at .spans)) ≡ loose b (lowest b r) (s .stretches)
+      loose-same = ap (loose b (lowest b r)) (s .remembered) ∙ loose-places b (lowest b r) (s .stretches)
+
+      pub raised : (1 ≤ by) × (by ≤ maxBody)
+      raised = (
+        shift-ge ts S (r .node) (r .closing),
+        omega (arith, short-upto (s .read), shift-upto ts S (accepted-setting book ts (s .read) .positive) (r .node) (r .closing)),
+      )
+
+      -- How deep it goes, and what it matches.
+      pub depths : (r .depth ≤ b) × (r .depth ≤ maxBody)
+      depths = (turn .inside, omega (arith, turn .short, accepted-longest book ts (s .read)))
+
+      pub matched : r .node ≡ take (r .depth) (drop (b - r .depth) image)
+      matched = turn .bytes
+
+      pub unmet : r .marked ≡ false → met (ofTokens ts S) image b ≡ []
+      unmet = turn .unmet
+
+      pub turns : (after : Standing) → after .boundary ≡ b + by
+          → inUse (after .spans) ≡ renewed (b - r .depth) b (b + by) (inUse (at .spans)) → after .spans .used ≤ 5
+          → after .fetched ≡ at .fetched + loose b (lowest b r) (inUse (at .spans))
+          → after .hits ≡ at .hits + length (met (ofTokens ts S) image b)
+          → Stands book image after (found ++ met (ofTokens ts S) image b)
+      turns after e u w f g = record {
+        read = s .read;
+        stretches = ss;
+        fuel = turn .left;
+        count = turn .count;
+        starts = rw e (turn .starts);
+        remembered = u ∙ sym after-places;
+        few = w;
+        finds =
+            rw e (append-assoc found (met (ofTokens ts S) image b) _ ∙ ap (λ l. found ++ l) (sym (turn .finds)) ∙ s .finds);
+        fetches = rw e (omega (arith, f, loose-same, turn .fetches, s .fetches));
+        counted = g ∙ rw length-append (omega (arith, s .counted));
+        positive = omega (arith, s .positive);
+        near = omega (arith, e, raised);
+      }

@@ -1,0 +1,26 @@
+-- What the sweep of an image answers, as the definitions have it.
+use Prim.Native.Nat.{ℕ, _+_}
+use mathlib.Core.Bool.{true, false}
+use mathlib.Core.List.{List}
+use Rattle.rules.specs.Tokens.{total}
+use Rattle.book.specs.Book.{Verdict, accepted, refused, readBook, maxImage}
+use Rattle.book.specs.Answers.{refusalOf}
+use Rattle.trie.specs.Tables.{Tables, tooShort}
+use Rattle.image.specs.declared.Swept.{Swept}
+use Rattle.image.specs.declared.Swept.the-variants.{Whole, Unread, TooShort, TooLong, TooMany}
+use Rattle.image.specs.Image.{Found}
+
+abbrev pub sweptOf : Swept → Verdict Found
+sweptOf (Whole f) = accepted (record { hits = f .hits; fetched = f .fetched })
+sweptOf (Unread why) = refused (refusalOf why .0) (refusalOf why .1)
+sweptOf (TooShort room) = refused 7 room
+sweptOf (TooLong most) = refused 8 most
+sweptOf (TooMany all) = refused 12 all
+
+-- What is refused when the image is over its limit: 1 to 6, 7, 8.
+abbrev pub refusalFor : List ℕ → Tables → Verdict Found
+refusalFor book t =
+    elim (readBook book) [
+      | refused k v ↦ refused k v
+      | accepted tokens ↦ elim (tooShort t tokens) [ true ↦ refused 7 (1 + total tokens) | false ↦ refused 8 maxImage ]
+    ]

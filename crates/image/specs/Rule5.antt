@@ -1,0 +1,54 @@
+-- Rule 5 straight from the records of a book, and caches of it: an entry is 0 or right.
+use Prim.Native.Nat.{ℕ, _+_, _*_, _≤_, _<_}
+use mathlib.Core.Path.{_≡_}
+use mathlib.Core.Bool.{Bool, false}
+use mathlib.Core.List.{List, [], _∷_}
+use mathlib.Core.Option.{Option, some, none}
+use lib.ListN.{length, getD}
+use Rattle.rules.specs.Lists.{any}
+use Rattle.rules.specs.Tokens.{ends, nodeShift, byteShift, shiftOf, shortestOf}
+use Rattle.book.specs.Book.{Reading, accepted, refused, readBook, maxBody}
+use Rattle.trie.specs.Tables.{nodes}
+use Rattle.image.specs.declared.walk.Stop.{Stop}
+use Rattle.image.specs.declared.walk.Stop.the-variants.{Byte, Nothing}
+
+-- the tokens of a book, none where it is refused
+abbrev pub tokensIn : Reading → List (List ℕ)
+tokensIn (accepted tokens) = tokens
+tokensIn (refused k v) = []
+
+abbrev pub tokensOf : List ℕ → List (List ℕ)
+tokensOf book = tokensIn (readBook book)
+
+-- A book that is accepted, with its S.
+pub record Accepted (book : List ℕ) (shortest : ℕ) : Type 0 where
+  pub read : readBook book ≡ accepted (tokensOf book)
+  pub short : shortest ≡ shortestOf (tokensOf book)
+
+-- The byte that ended a round.
+abbrev pub closingOf : Stop → Option ℕ
+closingOf (Byte x) = some x
+closingOf Nothing = none
+
+-- the ending of node v
+abbrev pub nameOf : List ℕ → ℕ → List ℕ
+nameOf book v = getD (nodes (tokensOf book)) v []
+
+-- an entry is 0 or right
+abbrev pub Right : ℕ → ℕ → Type 0
+Right entry right = (entry ≡ 0 → ⊥) → entry ≡ right
+
+-- The node shift by node.
+pub record ByNode (book : List ℕ) (shortest : ℕ) (cache : List ℕ) : Type 0 where
+  pub right : (v : ℕ) → Right (getD cache v 0) (nodeShift (tokensOf book) shortest (nameOf book v))
+
+-- The byte shift by byte and by depths below 64.
+pub record ByByte (book : List ℕ) (shortest : ℕ) (cache : List ℕ) : Type 0 where
+  pub size : length cache ≡ 16384
+  pub right : (d x : ℕ) → d < 64 → x < 256 → Right (getD cache (256 * d + x) 0) (byteShift (tokensOf book) shortest d (some x))
+
+-- The shift of a round that ends at its first byte, by that byte, if the root has no child for it.
+pub record BySkip (book : List ℕ) (shortest : ℕ) (cache : List ℕ) : Type 0 where
+  pub size : length cache ≡ 256
+  pub right : (x : ℕ) → x < 256 → (getD cache x 0 ≡ 0 → ⊥)
+      → (any (ends (x ∷ [])) (tokensOf book) ≡ false) × (getD cache x 0 ≡ shiftOf (tokensOf book) shortest [] (some x))

@@ -1,0 +1,55 @@
+-- What the code of a round asks of the tables, and what it answers, as `Rounds` has it.
+use Prim.Native.Nat.{ℕ, zero, suc, _+_, _≤_, _<_}
+use mathlib.Core.Path.{_≡_}
+use mathlib.Core.Bool.{Bool, true, false}
+use mathlib.Core.List.{List, [], _∷_}
+use mathlib.Core.Option.{Option, some, none}
+use lib.Dec.{ltb, eqb}
+use lib.ListN.{length, getD, set}
+use Rattle.rules.specs.Rules.{Tree}
+use Rattle.trie.specs.Walks.{childBy, ofTables}
+use Rattle.trie.specs.Answers.{tables}
+use Rattle.image.specs.declared.walk.Stop.{Stop}
+use Rattle.image.specs.declared.walk.Stop.the-variants.{Byte, Nothing}
+use Rattle.image.specs.declared.walk.Arrival.{Arrival}
+use Rattle.image.specs.Rounds.{Reached}
+
+-- The tree of the four tables that a round reads; S plays no part in it.
+abbrev pub treeIn : List ℕ → List ℕ → List ℕ → List ℕ → ℕ → Tree ℕ
+treeIn label token first next count = ofTables (tables [] label token first next) count 0
+
+-- Nodes below the count have their entries, their children are such nodes, and the root has a child.
+pub record Walkable (label token first next : List ℕ) (count : ℕ) : Type 0 where
+  pub some-node : 0 < count
+  pub tokens : count ≤ length token
+  pub firsts : count ≤ length first
+  pub numbers : (v : ℕ) → v < count → getD token v 0 ≤ 256
+  pub rooted : eqb (getD first 0 0) 0 ≡ false
+  pub below : (v x w : ℕ) → v < count → childBy (tables [] label token first next) count v x ≡ some w → w < count
+
+-- a child's number, 0 for none
+abbrev pub numberOf : Option ℕ → ℕ
+numberOf none = 0
+numberOf (some v) = v
+
+-- The root's children by label.
+pub record Kids (label first next : List ℕ) (count : ℕ) (kids : List ℕ) : Type 0 where
+  pub size : length kids ≡ 256
+  pub each : (x : ℕ) → x < 256 → getD kids x 0 ≡ numberOf (childBy (tables [] label [] first next) count 0 x)
+
+-- Where a round ends, as the code answers it.
+abbrev pub stopOf : Option ℕ → Stop
+stopOf none = Nothing
+stopOf (some x) = Byte x
+
+abbrev pub arrivalOf : Reached ℕ → Arrival
+arrivalOf r = record { node = r .node; depth = r .depth; stop = stopOf (r .closing); marked = r .marked }
+
+-- A list with x at place i, if that is below `room`.
+abbrev pub note : ℕ → ℕ → ℕ → List ℕ → List ℕ
+note room i x l = elim (ltb i room) [ true ↦ set l i x | false ↦ l ]
+
+-- A list with xs from place i on, as far as they lie below `room`.
+abbrev pub notes : ℕ → ℕ → List ℕ → List ℕ → List ℕ
+notes room i [] l = l
+notes room i (x ∷ xs) l = notes room (i + 1) xs (note room i x l)

@@ -1,0 +1,117 @@
+// The sweep of a whole image at hand.
+mod caches;
+mod rounds;
+mod rule5;
+mod skim;
+mod spans;
+mod standing;
+mod turn;
+mod walk;
+
+ghost use Prim.Native.Nat.{min};
+ghost use mathlib.Core.Path.{_≡_};
+ghost use Rattle.trie.specs.Tables.{Tables, shortestTable};
+ghost use Rattle.trie.specs.Answers.{tables};
+ghost use Rattle.image.specs.Image.{sweepImage};
+ghost use Rattle.image.specs.Results.{sweptOf, refusalFor};
+use book::Book;
+use book::Reading;
+use book::Refusal;
+use trie::Building;
+
+// How many hits there are, and how many bytes were fetched.
+pub struct Found {
+    pub hits: usize,
+    pub fetched: usize,
+}
+
+// What the sweep answers: all it found; the book's refusal; 7 with the length wanted; 8 with the limit; 12 with the number of all hits.
+pub enum Swept {
+    Whole(Found),
+    Unread(Refusal),
+    TooShort(usize),
+    TooLong(usize),
+    TooMany(usize),
+}
+
+fn least(a: usize, b: usize) -> usize
+    ensures { λ r. ⌜ r ≡ min a b ⌝ }
+{
+    if a < b { a } else { b }
+}
+
+// Refusals 1 to 8 where the image is over its limit: nothing is built. `entries` is the shortest table's length.
+fn refuse(book: &[u8], entries: usize) -> Swept
+    ensures { λ r. ⌜ ((t : Tables) → entries ≡ shortestTable t → sweptOf r ≡ refusalFor (now (book .entry)) t) ⌝ }
+{
+    match book::read(book) {
+        Reading::Refused(why) => Swept::Unread(why),
+        Reading::Accepted(totals) => {
+            let room = 1 + totals.bodies;
+            if entries < room {
+                return Swept::TooShort(room);
+            }
+            Swept::TooLong(Book::IMAGE)
+        }
+    }
+}
+
+// Finds every token of the book in the image. Up to refusal 8 tables and buffers stay as they are; else the tables are built and the
+// buffers hold the hits, as many as the shorter one has entries.
+pub fn sweep_image(
+    book: &[u8],
+    image: &[u8],
+    parent: &mut [u16],
+    label: &mut [u8],
+    token: &mut [u16],
+    first: &mut [u16],
+    next: &mut [u16],
+    ends: &mut [u32],
+    tokens: &mut [u32],
+) -> Swept
+    ensures { λ r. ⌜
+        record {
+          answer = sweptOf r;
+          tables = tables (now (parent .exit)) (now (label .exit)) (now (token .exit)) (now (first .exit)) (now (next .exit));
+          ends = now (ends .exit);
+          tokens = now (tokens .exit);
+        }
+        ≡ sweepImage (now (book .entry)) (now (image .entry))
+        (tables (now (parent .entry)) (now (label .entry)) (now (token .entry)) (now (first .entry)) (now (next .entry)))
+        (now (ends .entry)) (now (tokens .entry))
+        ⌝ }
+{
+    if Book::IMAGE < image.len() {
+        let entries = least(
+            parent.len(),
+            least(
+                label.len(),
+                least(token.len(), least(first.len(), next.len())),
+            ),
+        );
+        return refuse(book, entries);
+    }
+    match trie::build(book, parent, label, token, first, next) {
+        Building::Unread(why) => Swept::Unread(why),
+        Building::TooShort(room) => Swept::TooShort(room),
+        Building::Made(sizes) => {
+            let found = rounds::sweep(
+                book,
+                image,
+                label,
+                token,
+                first,
+                next,
+                sizes.nodes,
+                sizes.shortest,
+                ends,
+                tokens,
+            );
+            let room = least(ends.len(), tokens.len());
+            if room < found.hits {
+                return Swept::TooMany(found.hits);
+            }
+            Swept::Whole(found)
+        }
+    }
+}

@@ -1,0 +1,323 @@
+/* Compares the gateway's two calls with a plain reading of document 01, on random, damaged and largest inputs: answers, tables, hit
+ * buffers and the bytes around them. It knows nothing of the proved code; only lonnatchi.h. Fails at the first difference. */
+#include "../include/lonnatchi.h"
+#include <stdio.h>
+#include <stdlib.h>
+#include <string.h>
+
+enum { ENTRIES = 16385, GUARD = 64, BOOK = 20000, LIMIT = 16777216 };
+
+static uint64_t seed = 0x9e3779b97f4a7c15u;
+static uint32_t some(void) {
+    seed ^= seed << 13, seed ^= seed >> 7, seed ^= seed << 17;
+    return seed >> 16;
+}
+static size_t below(size_t n) { return n ? some() % n : 0; }
+
+/* Lent memory with guard bytes on both sides, and what it held before the call. */
+typedef struct {
+    uint8_t *all, *before;
+    size_t width, len;
+} lent;
+
+static void *data(lent *m) { return m->all + GUARD; }
+
+static lent lend(size_t width, size_t len) {
+    size_t whole = 2 * GUARD + width * len;
+    lent m = {malloc(whole), malloc(whole), width, len};
+    for (size_t i = 0; i < whole; i++) m.all[i] = some();
+    memcpy(m.before, m.all, whole);
+    return m;
+}
+
+static void give_back(lent *m) { free(m->all), free(m->before); }
+
+static uint64_t entry(const lent *m, const uint8_t *from, size_t i) {
+    uint64_t x = 0;
+    memcpy(&x, from + GUARD + m->width * i, m->width);
+    return x;
+}
+
+static unsigned long cases, calls;
+
+static void fail(const char *what, uint64_t is, uint64_t wanted) {
+    fprintf(stderr, "case %lu: %s is %llu, wanted %llu\n", cases, what, (unsigned long long)is, (unsigned long long)wanted);
+    exit(1);
+}
+
+static void same(const char *what, uint64_t is, uint64_t wanted) {
+    if (is != wanted) fail(what, is, wanted);
+}
+
+/* The first `n` entries are `wanted`; all else is as it was, the guards too. */
+static void holds(const char *what, const lent *m, const uint32_t *wanted, size_t n) {
+    for (size_t i = 0; i < n; i++) same(what, entry(m, m->all, i), wanted[i]);
+    size_t from = GUARD + m->width * n, whole = 2 * GUARD + m->width * m->len;
+    if (memcmp(m->all, m->before, GUARD)) fail(what, 0, 1);
+    if (memcmp(m->all + from, m->before + from, whole - from)) fail(what, 2, 3);
+}
+
+/* The book: its refusal, or its tokens. */
+static struct {
+    size_t refusal, value, many, total, shortest, longest;
+    const uint8_t *body[256];
+    size_t size[256];
+} told;
+
+static int refuse(size_t number, size_t value) {
+    told.refusal = number, told.value = value;
+    return 0;
+}
+
+static int read_book(const uint8_t *book, size_t len) {
+    told.refusal = told.value = told.many = told.total = told.longest = 0, told.shortest = 1024;
+    for (size_t at = 0;;) {
+        if (at >= len) return refuse(1, len);
+        size_t kind = book[at], size = kind <= 64 ? kind : kind <= 68 ? (size_t)128 << (kind - 65) : 0;
+        if (kind > 68) return refuse(2, at);
+        if (!kind) {
+            if (at + 1 < len) return refuse(3, at + 1);
+            return told.many ? 1 : refuse(6, 0);
+        }
+        if (at + 1 + size > len) return refuse(1, at);
+        if (told.many == 256 || told.total + size > 16384) return refuse(5, at);
+        for (size_t t = 0; t < told.many; t++)
+            if (told.size[t] == size && !memcmp(told.body[t], book + at + 1, size)) return refuse(4, at);
+        told.body[told.many] = book + at + 1, told.size[told.many++] = size, told.total += size;
+        if (size < told.shortest) told.shortest = size;
+        if (size > told.longest) told.longest = size;
+        at += 1 + size;
+    }
+}
+
+/* The tables: a node for each different ending as it first occurs; links by searching all nodes. */
+static uint32_t table[5][ENTRIES];
+static size_t nodes;
+
+static size_t child(size_t node, uint8_t x) {
+    for (size_t v = node + 1; v < nodes; v++)
+        if (table[0][v] == node && table[1][v] == x) return v;
+    return 0;
+}
+
+static void build(void) {
+    memset(table, 0, sizeof table);
+    nodes = 1;
+    for (size_t t = 0; t < told.many; t++) {
+        size_t node = 0;
+        for (size_t k = told.size[t]; k-- > 0;) {
+            size_t v = child(node, told.body[t][k]);
+            if (!v) v = nodes++, table[0][v] = node, table[1][v] = told.body[t][k];
+            node = v;
+        }
+        table[2][node] = t + 1;
+    }
+    for (size_t v = 1; v < nodes; v++) {
+        if (!table[3][table[0][v]]) table[3][table[0][v]] = v;
+        for (size_t w = v + 1; w < nodes && !table[4][v]; w++)
+            if (table[0][w] == table[0][v]) table[4][v] = w;
+    }
+}
+
+/* The hits by comparing each token at each end, the shorter token first. */
+static uint32_t *hit_end, *hit_token;
+static size_t hits, hit_room;
+
+static void hit(size_t end, size_t number) {
+    if (hits == hit_room) {
+        hit_room = 2 * hit_room + 64;
+        hit_end = realloc(hit_end, hit_room * sizeof *hit_end), hit_token = realloc(hit_token, hit_room * sizeof *hit_token);
+    }
+    hit_end[hits] = end, hit_token[hits++] = number;
+}
+
+static void search(const uint8_t *image, size_t n) {
+    size_t order[256];
+    for (size_t t = 0; t < told.many; t++) {
+        size_t i = t;
+        for (; i && told.size[order[i - 1]] > told.size[t]; i--) order[i] = order[i - 1];
+        order[i] = t;
+    }
+    hits = 0;
+    for (size_t end = 1; end <= n; end++)
+        for (size_t i = 0; i < told.many; i++) {
+            size_t t = order[i];
+            if (told.size[t] <= end && !memcmp(image + end - told.size[t], told.body[t], told.size[t])) hit(end, t + 1);
+        }
+}
+
+/* Rule 5: token t, moved s to the right, agrees with byte x that k others lie right of. */
+static int agrees(size_t t, size_t s, size_t k, uint8_t x) {
+    return told.size[t] <= k + s || told.body[t][told.size[t] - 1 - (k + s)] == x;
+}
+
+static size_t shift(const uint8_t *end, size_t d, int closed) {
+    size_t node = 0, byte = closed ? 0 : 1;
+    for (size_t s = 1; s < told.shortest && !(node && byte); s++)
+        for (size_t t = 0; t < told.many; t++) {
+            size_t k = 0;
+            while (k < d && agrees(t, s, k, end[-1 - (ptrdiff_t)k])) k++;
+            if (k == d && !node) node = s;
+            if (!byte && agrees(t, s, d, end[-1 - (ptrdiff_t)d])) byte = s;
+        }
+    if (!node) node = told.shortest;
+    if (!byte) byte = told.shortest;
+    return node > byte ? node : byte;
+}
+
+/* The d bytes before `end` are an ending of a token that has at least `more` bytes in front of it. */
+static int ending(const uint8_t *end, size_t d, size_t more) {
+    for (size_t t = 0; t < told.many; t++)
+        if (told.size[t] >= d + more && !memcmp(told.body[t] + told.size[t] - d, end - d, d)) return 1;
+    return 0;
+}
+
+/* How many bytes the reading rules fetch. */
+static uint64_t fetches(const uint8_t *image, size_t n) {
+    size_t left[8], right[8], used = 0, b = told.shortest;
+    uint64_t fetched = 0;
+    while (b <= n) {
+        size_t d = 0, k = 0;
+        int closed = 0;
+        while (!closed && d < b && ending(image + b, d, 1)) {
+            size_t at = b - 1 - d, known = 0;
+            for (size_t i = 0; i < used; i++) known |= left[i] <= at && at < right[i];
+            fetched += !known;
+            if (ending(image + b, d + 1, 0)) d++;
+            else closed = 1;
+        }
+        size_t from = b - d, edge = from, to = b + shift(image + b, d, closed);
+        for (size_t i = 0; i < used; i++) {
+            if (left[i] >= from) continue;
+            if (right[i] > edge) edge = right[i];
+            if (4 * (to - right[i]) <= right[i] - left[i]) left[k] = left[i], right[k++] = right[i];
+        }
+        if (4 * (to - b) <= b - edge) left[k] = edge, right[k++] = b;
+        used = k, b = to;
+    }
+    return fetched;
+}
+
+/* Lends tables and buffers of these lengths to both calls, and compares. What the plain reading says of the book and the image stands. */
+static void compare(const uint8_t *book, size_t book_len, const uint8_t *image, size_t n, const size_t lens[5], size_t ends_len,
+                    size_t tokens_len, uint64_t fetched) {
+    static const size_t widths[5] = {2, 1, 2, 2, 2};
+    static const char *const names[5] = {"parent", "label", "token", "first child", "next sibling"};
+    lent t[5], u[5], ends = lend(4, ends_len), tokens = lend(4, tokens_len);
+    size_t shortest = lens[0], number = told.refusal, value = told.value, room = ends_len < tokens_len ? ends_len : tokens_len;
+    for (int i = 0; i < 5; i++) {
+        t[i] = lend(widths[i], lens[i]), u[i] = lend(widths[i], lens[i]);
+        if (lens[i] < shortest) shortest = lens[i];
+    }
+    if (!number && shortest < 1 + told.total) number = 7, value = 1 + told.total;
+    lonnatchi_built made = lonnatchi_build(book, book_len, data(&t[0]), lens[0], data(&t[1]), lens[1], data(&t[2]), lens[2],
+                                           data(&t[3]), lens[3], data(&t[4]), lens[4]);
+    same("build's refusal", made.refusal, number), same("build's value", made.value, value);
+    same("nodes", made.nodes, number ? 0 : nodes), same("shortest", made.shortest, number ? 0 : told.shortest);
+    same("longest", made.longest, number ? 0 : told.longest);
+    for (int i = 0; i < 5; i++) holds(names[i], &t[i], table[i], number ? 0 : nodes);
+    if (!number && n > LIMIT) number = 8, value = LIMIT;
+    size_t built = number ? 0 : nodes, noted = number ? 0 : hits < room ? hits : room;
+    if (!number && hits > room) number = 12, value = hits;
+    lonnatchi_swept r = lonnatchi_sweep(book, book_len, image, n, data(&u[0]), lens[0], data(&u[1]), lens[1], data(&u[2]), lens[2],
+                                        data(&u[3]), lens[3], data(&u[4]), lens[4], data(&ends), ends_len, data(&tokens), tokens_len);
+    same("sweep's refusal", r.refusal, number), same("sweep's value", r.value, value);
+    same("hits", r.hits, number ? 0 : hits), same("fetched", r.fetched, number ? 0 : fetched);
+    for (int i = 0; i < 5; i++) holds(names[i], &u[i], table[i], built);
+    holds("ends", &ends, hit_end, noted), holds("tokens", &tokens, hit_token, noted);
+    for (int i = 0; i < 5; i++) give_back(&t[i]), give_back(&u[i]);
+    give_back(&ends), give_back(&tokens);
+    calls++;
+}
+
+/* Reads, builds and searches plainly, and compares with hit buffers of every length from none to one more than enough. */
+static void check(const uint8_t *book, size_t book_len, const uint8_t *image, size_t n, const size_t lens[5]) {
+    uint64_t fetched = 0;
+    nodes = hits = 0;
+    cases++;
+    if (read_book(book, book_len)) {
+        build(), search(image, n < LIMIT ? n : LIMIT);
+        if (n <= LIMIT) fetched = fetches(image, n);
+    }
+    size_t most = hits < 8 ? hits + 1 : 0;
+    for (size_t i = 0; i <= most; i++)
+        for (size_t k = 0; k <= most; k++)
+            if (most) compare(book, book_len, image, n, lens, i, k, fetched);
+    for (size_t i = 0; i < 3 && !most; i++) compare(book, book_len, image, n, lens, below(hits + 2), i ? hits + 1 : below(hits + 2), fetched);
+    if (!most) compare(book, book_len, image, n, lens, hits, hits, fetched);
+}
+
+static uint8_t book[BOOK], *image;
+static size_t book_len;
+
+static void add(const uint8_t *body, size_t size) {
+    book[book_len++] = size <= 64 ? size : size == 128 ? 65 : size == 256 ? 66 : size == 512 ? 67 : 68;
+    memcpy(book + book_len, body, size);
+    book_len += size;
+}
+
+static void add_random(size_t count, size_t size, uint32_t letters) {
+    uint8_t body[1024];
+    while (count--) {
+        for (size_t i = 0; i < size; i++) body[i] = letters ? 'a' + below(letters) : some();
+        add(body, size);
+    }
+}
+
+/* A small book over few letters, an image with its tokens in it; now and then a damaged book, or tables too short. */
+static void random_case(void) {
+    static const size_t sizes[] = {1, 1, 2, 2, 3, 3, 4, 5, 6, 8, 12, 16, 30, 64, 128};
+    uint32_t letters = 1 + below(3);
+    size_t lens[5], n = below(2) ? below(40) : below(400);
+    book_len = 0;
+    for (size_t many = 1 + below(6); many; many--) {
+        uint8_t body[128];
+        size_t size = sizes[below(sizeof sizes / sizeof *sizes)], same_letter = below(3);
+        for (size_t i = 0; i < size; i++) body[i] = same_letter ? 'a' + below(letters) : 'a';
+        if (!below(4)) body[0] = 'b';
+        add(body, size);
+    }
+    book[book_len++] = 0;
+    for (size_t i = 0; i < n; i++) image[i] = 'a' + below(letters);
+    for (size_t k = below(4), at = 0; k && at < book_len; k--) {
+        size_t size = book[at] <= 64 ? book[at] : 128;
+        if (size && size <= n) memcpy(image + below(n - size + 1), book + at + 1, size);
+        at += 1 + size;
+    }
+    if (!below(4)) book_len = below(book_len + 1);
+    if (!below(4) && book_len) book[below(book_len)] = below(3) ? below(70) : some();
+    if (!below(8)) book[book_len++] = some();
+    for (int i = 0; i < 5; i++) lens[i] = below(6) ? 700 + below(100) : below(600);
+    check(book, book_len, image, n, lens);
+}
+
+static void full(size_t n) {
+    static const size_t lens[5] = {ENTRIES, ENTRIES, ENTRIES, ENTRIES, ENTRIES};
+    check(book, book_len, image, n, lens);
+}
+
+int main(void) {
+    image = malloc(LIMIT + 1);
+    for (int i = 0; i < 4000; i++) random_case();
+    /* The largest books, one token more, and 256 and 257 tokens. */
+    static const size_t many[] = {16, 17, 256, 257, 256, 256}, size[] = {1024, 1024, 8, 8, 64, 65};
+    for (int i = 0; i < 5; i++) {
+        book_len = 0;
+        add_random(many[i], size[i], 0);
+        book[book_len++] = 0;
+        for (size_t k = 0; k < 20000; k++) image[k] = some();
+        memcpy(image + 5000, book + 1, size[i]);
+        full(20000);
+    }
+    /* The largest image, and one byte more: first of one letter, then random. */
+    for (int i = 0; i < 2; i++) {
+        book_len = 0;
+        if (i) add_random(3, 8, 0);
+        else add((const uint8_t *)"abaaaaaaaaaa", 12);
+        book[book_len++] = 0;
+        for (size_t k = 0; k <= LIMIT; k++) image[k] = i ? some() : 'a';
+        full(LIMIT), full(LIMIT + 1);
+    }
+    printf("gateway: %lu books and images, %lu calls of each function agree with the plain reading\n", cases, calls);
+    return 0;
+}
