@@ -16,7 +16,7 @@ use Rattle.image.specs.declared.walk.Arrival.{Arrival}
 use Rattle.image.specs.Rounds.{reached, met}
 use Rattle.image.specs.Rule5.{tokensOf, closingOf, BySkip}
 use Rattle.image.specs.Walk.{treeIn, Walkable, stopOf, arrivalOf, notes}
-use Rattle.image.specs.Sweeping.{Given, Stands, Known, Goes, Caches, Arrives, Turned, Skimmable, Skimmed}
+use Rattle.image.specs.Sweeping.{Given, Stands, Known, Goes, Caches, Arrives, Turned, Ahead, Skimmed}
 use Rattle.image.specs.Laws.Round.{unmet-none}
 use Rattle.image.specs.Laws.Tables.{walkable, reached-same, met-same}
 use Rattle.image.specs.Laws.Sweeping.{hits-small, raised, turns}
@@ -102,8 +102,8 @@ module _ {book image label token first next : List ℕ} {count shortest : ℕ} (
 
     module _ {at : Standing} (k : Known book image at) where
       -- With nothing remembered, rounds can be skimmed,
-      pub skims : at .spans .used ≡ 0 → Skimmable image skip at
-      skims u = record { book = book; known = k; within = g .within; right = skip-right; none = u }
+      pub goes-ahead : Ahead image skip at
+      goes-ahead = record { book = book; known = k; within = g .within; right = skip-right }
 
       module _ {on : Standing} (s : Skimmed image skip at on) where
         skimmed-stands : (found : List (ℕ × ℕ)) → Stands book image at found → Stands book image on found

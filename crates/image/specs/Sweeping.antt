@@ -109,6 +109,13 @@ module _ (book image : List ℕ) where
     pub fetched : after .fetched ≡ at .fetched + loose (at .boundary) (lowest (at .boundary) (endAt (at .boundary))) (inUse (at .spans))
     pub counted : after .hits ≡ hits
 
+-- A sweep with a cache that is right for its book.
+pub record Ahead (image skip : List ℕ) (at : Standing) : Type 0 where
+  pub book : List ℕ
+  pub known : Known book image at
+  pub within : length image ≤ maxImage
+  pub right : BySkip book (shortestOf (tokensOf book)) skip
+
 -- Rounds that end at their first byte can be skimmed: nothing is remembered, and the cache is right.
 pub record Skimmable (image skip : List ℕ) (at : Standing) : Type 0 where
   pub book : List ℕ

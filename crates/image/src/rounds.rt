@@ -9,7 +9,7 @@ ghost use Rattle.image.specs.Walk.{treeIn, Walkable, Kids, arrivalOf, no
 ghost use Rattle.image.specs.Rule5.{tokensOf};
 ghost use Rattle.image.specs.Sweeping.{Given, Known, Goes, Caches};
 use crate::Found;
-use crate::skim::skim;
+use crate::skim::ahead;
 use crate::standing;
 use crate::standing::Standing;
 use crate::turn;
@@ -148,26 +148,7 @@ fn go_on(
     ensures caches { λ r. ⌜ Caches (now (book .entry)) shortest (now (nodes .exit)) (now (bytes .exit)) (now (skip .exit)) ⌝ }
     ensures up { λ r. ⌜ at .boundary < r .boundary ⌝ }
 {
-    if at.spans.used != 0 {
-        return round(
-            at,
-            book,
-            image,
-            label,
-            token,
-            first,
-            next,
-            count,
-            kids,
-            shortest,
-            ends,
-            tokens,
-            nodes,
-            bytes,
-            skip,
-        );
-    }
-    let on = skim(at, image, skip);
+    let on = ahead(at, image, skip);
     if image.len() < on.boundary {
         return on;
     }

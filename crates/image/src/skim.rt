@@ -1,10 +1,10 @@
 // Rounds that end at their first byte, when nothing is remembered and their shift is known: most of a sweep.
-ghost use Rattle.image.specs.Sweeping.{Skimmable, Skimmed};
+ghost use Rattle.image.specs.Sweeping.{Ahead, Skimmable, Skimmed};
 use crate::standing::Standing;
 use crate::walk::wide;
 
 // As many such rounds as come one after the other.
-pub fn skim(at: Standing, image: &[u8], skip: &[u16]) -> Standing
+fn skim(at: Standing, image: &[u8], skip: &[u16]) -> Standing
     requires { ⌜ Skimmable (now image) (now skip) at ⌝ }
     ensures { λ r. ⌜ Skimmed (now (image .entry)) (now (skip .entry)) at r ⌝ }
 {
@@ -25,4 +25,15 @@ pub fn skim(at: Standing, image: &[u8], skip: &[u16]) -> Standing
         fetched: at.fetched + looks,
         hits: at.hits,
     }
+}
+
+// Where something is remembered, no round is skimmed.
+pub fn ahead(at: Standing, image: &[u8], skip: &[u16]) -> Standing
+    requires { ⌜ Ahead (now image) (now skip) at ⌝ }
+    ensures { λ r. ⌜ Skimmed (now (image .entry)) (now (skip .entry)) at r ⌝ }
+{
+    if at.spans.used != 0 {
+        return at;
+    }
+    skim(at, image, skip)
 }
