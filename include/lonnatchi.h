@@ -5,7 +5,7 @@
  *  - each pointer has as many entries as its length says, and is aligned as its type asks;
  *  - the tables and hit buffers do not overlap each other, the book or the image;
  *  - no other thread changes them during the call.
- * A call needs about 200 KB of stack.
+ * A call needs about 70 KB of stack.
  *
  * A refusal is a number with a value; 0 means none, with value 0. On a refusal the numbers after the value are 0.
  *
