@@ -6,13 +6,11 @@
 A case is a header of 16-bit numbers, low byte first, and the book: the book's length, the five tables' lengths, the number of a
 token to place, the number of a table to damage (5: none), the entry and the value put there, and the node count for the test.
 """
-import pathlib
 import random
-import sys
 
+import stored
 import tables
 
-ROOT = pathlib.Path(__file__).resolve().parent.parent / "crates" / "books"
 KINDS = {size: kind for kind, size in tables.LENGTHS.items()}
 FILL = 0xA5
 
@@ -120,13 +118,7 @@ def main():
     for c in cases():
         stdin += case(*c)
         stdout += "\n".join(answer(*c)) + "\n"
-    if sys.argv[1:] == ["--check"]:
-        same = (ROOT / "stdin").read_bytes() == stdin and (ROOT / "stdout").read_text() == stdout
-        print("books: the stored cases and output are the plain calls'" if same else "books: stored cases or output differ")
-        sys.exit(0 if same else 1)
-    ROOT.mkdir(parents=True, exist_ok=True)
-    (ROOT / "stdin").write_bytes(stdin)
-    (ROOT / "stdout").write_text(stdout)
+    stored.keep("books", stdin, stdout)
 
 
 if __name__ == "__main__":

@@ -11,13 +11,12 @@ Zeros at the end of a state and of the tables are left out. A call is 16 bits: a
 """
 import collections
 import copy
-import pathlib
 import random
 import sys
 
+import stored
 import tables
 
-ROOT = pathlib.Path(__file__).resolve().parent.parent / "crates" / "steps"
 CARRY = 256
 NODES, IMAGE, BODY, MOST = 16385, 16777216, 1024, 1000000000
 ROOM = 16400  # entries that a table of the program has room for
@@ -538,7 +537,7 @@ def used(numbers):
     return max((i + 1 for i, x in enumerate(numbers) if x), default=0)
 
 
-def stored(lists, state, calls):
+def written(lists, state, calls):
     """The bytes of a case."""
     numbers = state.numbers()[: used(state.numbers())]
     assert all(x < 2**31 or 2**64 - 2**31 <= x < 2**64 for x in numbers)
@@ -555,7 +554,7 @@ def main():
     all_cases, stdin, stdout = list(cases()), b"", []
     seen.clear()
     for lists, state, calls in all_cases:
-        stdin += stored(lists, state, calls)
+        stdin += written(lists, state, calls)
         state = copy.deepcopy(state)
         stdout += [call(lists, state, what) for what in calls]
         stdout.append("state " + " ".join(map(str, state.numbers())))
@@ -564,14 +563,7 @@ def main():
         print("steps: no case meets:", name)
     if missing:
         sys.exit(1)
-    text = "\n".join(stdout) + "\n"
-    if sys.argv[1:] == ["--check"]:
-        same = (ROOT / "stdin").read_bytes() == stdin and (ROOT / "stdout").read_text() == text
-        print("steps: the stored cases and output are the plain model's" if same else "steps: stored cases or output differ")
-        sys.exit(0 if same else 1)
-    ROOT.mkdir(parents=True, exist_ok=True)
-    (ROOT / "stdin").write_bytes(stdin)
-    (ROOT / "stdout").write_text(text)
+    stored.keep("steps", stdin, "\n".join(stdout) + "\n")
 
 
 if __name__ == "__main__":
