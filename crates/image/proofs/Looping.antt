@@ -1,18 +1,19 @@
 -- The loop of all rounds: the buffers hold the hits found so far, and the caches are right.
-use Prim.Native.Nat.{ℕ, zero, suc, _+_, _≤_, _<_}
+use Prim.Native.Nat.{ℕ, zero, suc, _+_, _^_, _≤_, _<_}
 use native.Mathlib.Omega.{arith}
 use mathlib.Core.Path.{_≡_, refl, ap, sym, _∙_}
 use mathlib.Core.List.{List, [], _∷_, _++_, map, map-append}
 use lib.ListN.{length, take, length-map}
+use Rattle.book.specs.Book.{maxImage, maxBody}
 use Rattle.trie.specs.Tables.{over}
-use Rattle.image.specs.declared.standing.Standing.{Standing}
 use Rattle.image.specs.Image.{room, hitsOf, fetchesOf, noted}
 use Rattle.image.specs.Spans.{inUse}
 use Rattle.image.specs.Rule5.{tokensOf}
 use Rattle.image.specs.Walk.{notes}
-use Rattle.image.specs.Sweeping.{Given, Stands, Known, Goes, Caches}
+use Rattle.image.specs.Sweeping.{Given, Standing, Stands, Known, Caches, Begun, Skimmable, onAt, Leads}
 use Rattle.image.specs.Laws.Notes.{notes-length, notes-append, notes-over}
-use Rattle.image.specs.Laws.Sweeping.{begins, all-found, all-fetched}
+use Rattle.image.specs.Laws.Sweeping.{begins, all-found, all-fetched, fetched-small}
+use Rattle.image.proofs.Rounding.{Goes}
 
 -- A part of the hits found lies in a buffer.
 module _ (part : ℕ × ℕ → ℕ) (r : ℕ) where
@@ -65,6 +66,37 @@ module _ {book image : List ℕ} {shortest : ℕ} {ends₀ tokens₀ ends tokens
 
   pub known : Known book image at
   known = record { found = l .found; stands = l .stands }
+
+  pub rounding-small : length image ≤ maxImage → (at .boundary ≤ maxImage + maxBody) × (at .fetched ≤ 2 ^ 36)
+  rounding-small w = (omega (arith, l .stands .near), fetched-small book image at (l .found) (l .stands) w)
+
+  -- Rounds can be skimmed, and that finds nothing; a round can begin.
+  pub rounding-skimmable : {label token first next : List ℕ} {count : ℕ} → Given book image label token first next count shortest
+      → Skimmable image skip shortest (at .boundary) (at .spans .used)
+  rounding-skimmable g = record {
+    book = book;
+    at = at;
+    known = known;
+    place = refl;
+    spans = refl;
+    within = g .within;
+    right = l .caches .by-skip;
+    short = g .read .short;
+  }
+
+  pub rounding-skims : {label token first next : List ℕ} {count : ℕ} → Given book image label token first next count shortest
+      → {b looks : ℕ} → Leads image skip shortest (at .boundary) (at .spans .used) b looks
+      → Rounding book image shortest ends₀ tokens₀ ends tokens nodes bytes skip (onAt at b looks)
+  rounding-skims g leads = record {
+    found = l .found;
+    stands = leads .stands book (l .caches .by-skip) (g .read .short) at refl refl (l .found) (l .stands);
+    caches = l .caches;
+    ends-hold = l .ends-hold;
+    tokens-hold = l .tokens-hold;
+  }
+
+  pub rounding-begun : at .boundary ≤ length image → Begun book image (at .boundary) (at .hits)
+  rounding-begun h = record { at = at; known = known; place = refl; so-far = refl; inside = h }
 
   pub rounding-again : {after : Standing} {ends′ tokens′ nodes′ bytes′ skip′ : List ℕ}
       → Goes book image at after (room ends tokens) ends ends′ tokens tokens′ → Caches book shortest nodes′ bytes′ skip′

@@ -1,4 +1,4 @@
--- A round as a whole: what its calls ask and what their answers amount to; the same for rounds that are skimmed, and the one after them.
+-- A round as a whole: what its calls ask and what their answers amount to.
 use Prim.Native.Nat.{ℕ, suc, _+_, _^_, _≤_, _<_}
 use native.Mathlib.Omega.{arith}
 use mathlib.Core.Path.{_≡_, refl, ap, sym, subst, _∙_}
@@ -11,15 +11,15 @@ use Rattle.rules.specs.Tokens.{shortestOf}
 use Rattle.book.specs.Laws.Accepted.{accepted-fit, accepted-some}
 use Rattle.trie.specs.Tables.{Tables}
 use Rattle.trie.specs.Answers.{tables}
-use Rattle.image.specs.declared.standing.Standing.{Standing}
 use Rattle.image.specs.declared.walk.Arrival.{Arrival}
 use Rattle.image.specs.Rounds.{reached, met}
 use Rattle.image.specs.Rule5.{tokensOf, closingOf, BySkip}
 use Rattle.image.specs.Walk.{treeIn, Walkable, stopOf, arrivalOf, notes}
-use Rattle.image.specs.Sweeping.{Given, Stands, Known, Goes, Caches, Arrives, Turned, Ahead, Skimmed}
+use Rattle.image.specs.Sweeping.{Given, Standing, Stands, Known, Begun}
 use Rattle.image.specs.Laws.Round.{unmet-none}
 use Rattle.image.specs.Laws.Tables.{walkable, reached-same, met-same}
-use Rattle.image.specs.Laws.Sweeping.{hits-small, raised, turns}
+use Rattle.image.specs.Laws.Sweeping.{hits-small, turns}
+use Rattle.image.proofs.Turning.{Arrives, Turned}
 
 -- A round that met no token puts nothing into the buffers.
 pub meets-none : (tree : Tree ℕ) (image : List ℕ) (b hits room : ℕ) (ends tokens : List ℕ)
@@ -33,6 +33,21 @@ meets-none tree image b hits room ends tokens arrival e h =
     × ((ends ≡ notes room hits (map (λ h. h .0) found) ends) × (tokens ≡ notes room hits (map (λ h. h .1) found) tokens)))
     (sym (unmet-none tree image b (suc b) (tree .root) 0 false unmarked .1))
     (omega arith, (refl, refl))
+
+-- From one standing to another, with more hits put into the buffers.
+pub record Goes (book image : List ℕ) (at after : Standing) (room : ℕ) (ends ends′ tokens tokens′ : List ℕ) : Type 0 where
+  pub more : List (ℕ × ℕ)
+  pub stands : (found : List (ℕ × ℕ)) → Stands book image at found → Stands book image after (found ++ more)
+  pub ends-hold : ends′ ≡ notes room (at .hits) (map (λ h. h .0) more) ends
+  pub tokens-hold : tokens′ ≡ notes room (at .hits) (map (λ h. h .1) more) tokens
+
+-- Where a round begins.
+module _ {book image : List ℕ} {b hits : ℕ} (s : Begun book image b hits) where
+  abbrev pub begunAt : Standing
+  begunAt = record { boundary = b; spans = s .at .spans; fetched = s .at .fetched; hits = hits }
+
+  pub begun-known : Known book image begunAt
+  begun-known = rw (sym (s .place), sym (s .so-far)) (s .known)
 
 closing-stop : (o : Option ℕ) → closingOf (stopOf o) ≡ o
 closing-stop none = refl
@@ -69,7 +84,6 @@ module _ {book image label token first next : List ℕ} {count shortest : ℕ} (
         subst (Arrives book image shortest at) (sym e)
         (record {
           read = g .read;
-          within = g .within;
           known = k;
           place = h;
           below = omega (arith, s .below, g .nodes);
@@ -92,41 +106,3 @@ module _ {book image label token first next : List ℕ} {count shortest : ℕ} (
             ends-hold = e;
             tokens-hold = q;
           }
-
-      pub round-up : b < after .boundary
-      round-up = omega (arith, w .boundary, raised book image at (k .found) (k .stands) h)
-
-  module _ {skip nodes bytes : List ℕ} (c : Caches book shortest nodes bytes skip) where
-    skip-right : BySkip book S skip
-    skip-right = subst (λ n. BySkip book n skip) (g .read .short) (c .by-skip)
-
-    module _ {at : Standing} (k : Known book image at) where
-      -- With nothing remembered, rounds can be skimmed,
-      pub goes-ahead : Ahead image skip at
-      goes-ahead = record { book = book; known = k; within = g .within; right = skip-right }
-
-      module _ {on : Standing} (s : Skimmed image skip at on) where
-        skimmed-stands : (found : List (ℕ × ℕ)) → Stands book image at found → Stands book image on found
-        skimmed-stands = s .stands book skip-right
-
-        pub skimmed-known : Known book image on
-        skimmed-known = record { found = k .found; stands = skimmed-stands (k .found) (k .stands) }
-
-        -- and that finds nothing,
-        pub skimmed-goes : (room : ℕ) (ends tokens : List ℕ) → Goes book image at on room ends ends tokens tokens
-        skimmed-goes room ends tokens = record {
-          more = [];
-          stands = λ found s. rw append-nil (skimmed-stands found s);
-          ends-hold = refl;
-          tokens-hold = refl;
-        }
-
-        -- so that what a round then finds is all.
-        pub skimmed-on : (after : Standing) (room : ℕ) (ends ends′ tokens tokens′ : List ℕ)
-            → Goes book image on after room ends ends′ tokens tokens′ → Goes book image at after room ends ends′ tokens tokens′
-        skimmed-on after room ends ends′ tokens tokens′ o = record {
-          more = o .more;
-          stands = λ found l. o .stands found (skimmed-stands found l);
-          ends-hold = rw (s .counted) at (o .ends-hold);
-          tokens-hold = rw (s .counted) at (o .tokens-hold);
-        }

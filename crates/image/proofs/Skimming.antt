@@ -1,56 +1,114 @@
--- The loop over rounds that end at their first byte.
-use Prim.Native.Nat.{ℕ, _+_, _-_, _^_, _≤_, _<_}
+-- Rounds that end at their first byte, one after the other.
+use Prim.Native.Nat.{ℕ, _+_, _-_, _*_, _^_, _≤_}
 use native.Mathlib.Omega.{arith}
-use mathlib.Core.Path.{_≡_, refl}
-use mathlib.Core.List.{List}
+use mathlib.Core.Path.{_≡_, refl, ap, sym, subst, _∙_}
+use mathlib.Core.List.{List, []}
+use mathlib.Core.Option.{some}
 use lib.ListN.{length, getD}
 use Rattle.rules.specs.Tokens.{shortestOf}
+use Rattle.rules.specs.Laws.Tests.{split}
+use Rattle.rules.specs.Laws.Exact.Shift.{shift-upto}
 use Rattle.book.specs.Book.{maxImage, maxBody}
-use Rattle.image.specs.declared.standing.Standing.{Standing}
+use Rattle.book.specs.Laws.Accepted.{accepted-setting}
+use Rattle.image.specs.declared.skim.Skipped.{Skipped}
 use Rattle.image.specs.Rule5.{tokensOf, BySkip}
-use Rattle.image.specs.Sweeping.{Stands, Skimmable, Skimmed}
-use Rattle.image.specs.Laws.Sweeping.{fetched-small}
-use Rattle.image.specs.Laws.Skimming.{onAt, skims}
+use Rattle.image.specs.Sweeping.{Stands, Cached, Four, Skimmable, onAt, Leads, Skimmed}
+use Rattle.image.specs.Laws.Sweeping.{fetched-small, short-upto}
+use Rattle.image.specs.Laws.Skimming.{skims}
 
--- One standing leads to another, for each book that the cache is right for.
-abbrev Leads : List ℕ → List ℕ → Standing → Standing → Type 0
-Leads image skip at after =
-    (book : List ℕ) → BySkip book (shortestOf (tokensOf book)) skip → (found : List (ℕ × ℕ)) → Stands book image at found
-    → Stands book image after found
+pub cached-is : {image skip : List ℕ} {b m n : ℕ} → Cached image skip b m → m ≡ n → Cached image skip b n
+cached-is {image} {skip} {b} k e = subst (Cached image skip b) e k
 
--- The rounds up to boundary b were skimmed, with so many looks at the image.
-pub record Skimming (image skip : List ℕ) (at : Standing) (b looks : ℕ) : Type 0 where
-  pub stands : Leads image skip at (onAt at b looks)
-  pub up : at .boundary ≤ b
-  pub positive : 1 ≤ b
-  pub near : b ≤ maxImage + maxBody
-  pub few : at .fetched + looks ≤ 2 ^ 36
+module _ {image skip : List ℕ} {S : ℕ} where
+  -- None leads nowhere,
+  pub lead-none : (b used : ℕ) → Leads image skip S b used b 0
+  lead-none b used = record {
+    stands = λ book right short at here none found s. let z : at .fetched + 0 ≡ at .fetched = omega arith in rw (sym here, z) s;
+  }
 
-pub skimming-done : {image skip : List ℕ} {at : Standing} {b looks : ℕ} → Skimming image skip at b looks
-    → Skimmed image skip at (onAt at b looks)
-skimming-done k = record { stands = k .stands; counted = refl; up = k .up }
+  -- some lead on from where others led,
+  pub lead-on : {b used c d m n : ℕ} → Leads image skip S b used c m → Leads image skip S c used d n → Leads image skip S b used d (m + n)
+  lead-on {c = c} {m = m} {n} f g = record {
+    stands = λ book right short at here none found s.
+        let z : at .fetched + (m + n) ≡ at .fetched + m + n = omega arith in
+        rw z (g .stands book right short (onAt at c m) refl none found (f .stands book right short at here none found s));
+  }
 
-module _ {image skip : List ℕ} {at : Standing} (g : Skimmable image skip at) where
-  skimming : (b looks : ℕ) → at .boundary ≤ b → Leads image skip at (onAt at b looks) → Skimming image skip at b looks
-  skimming b looks up leads =
-      let s = leads (g .book) (g .right) (g .known .found) (g .known .stands) in
+  -- one leads to where the cache says,
+  pub lead-one : {b by : ℕ} → Cached image skip b by → (by ≡ 0 → ⊥) → Leads image skip S b 0 (b + by) 1
+  lead-one {b} {by} c d = record {
+    stands = λ book right short at here none found s.
+        let e : b + by ≡ at .boundary + getD skip (getD image (at .boundary - 1) 0) 0 = rw here (ap (λ n. b + n) (c .shift)) in
+        rw e
+        (skims book image at found s (omega (arith, here, c .inside)) none skip (subst (λ n. BySkip book n skip) short right)
+        (getD image (at .boundary - 1) 0) refl (rw here (c .byte)) (rw here (λ z. d (c .shift ∙ z))));
+  }
+
+  -- and four by four times S.
+  pub lead-four : {b : ℕ} → 1 ≤ S → Four image skip b S → Leads image skip S b 0 (b + 4 * S) 4
+  lead-four {b} i f =
+      let d : S ≡ 0 → ⊥ = λ z. absurd (omega arith) in
+      let two : Leads image skip S (b + S) 0 (b + 2 * S) 1 = let z : b + 2 * S ≡ b + S + S = omega arith in rw z (lead-one (f .two) d) in
+      let three : Leads image skip S (b + 2 * S) 0 (b + 3 * S) 1 = let z : b + 3 * S ≡ b + 2 * S + S = omega arith in rw z (lead-one (f .three) d) in
+      let four : Leads image skip S (b + 3 * S) 0 (b + 4 * S) 1 = let z : b + 4 * S ≡ b + 3 * S + S = omega arith in rw z (lead-one (f .four) d) in
+      lead-on (lead-on (lead-on (lead-one (f .one) d) two) three) four
+
+-- The rounds from boundary b up to another were skimmed, with so many looks at the image.
+pub record Skimming (image skip : List ℕ) (S b at looks : ℕ) : Type 0 where
+  pub leads : Leads image skip S b 0 at looks
+  pub up : b ≤ at
+  pub positive : 1 ≤ at
+  pub near : at ≤ maxImage + maxBody
+  pub few : looks ≤ 2 ^ 36
+
+module _ {image skip : List ℕ} {S b : ℕ} (g : Skimmable image skip S b 0) where
+  -- where the sweep stands then
+  stands-on : {at looks : ℕ} → Leads image skip S b 0 at looks → Stands (g .book) image (onAt (g .at) at looks) (g .known .found)
+  stands-on leads = leads .stands (g .book) (g .right) (g .short) (g .at) (g .place) (g .spans) (g .known .found) (g .known .stands)
+
+  pub skimming : {at looks : ℕ} → b ≤ at → Leads image skip S b 0 at looks → Skimming image skip S b at looks
+  skimming {at} {looks} up leads =
+      let s = stands-on leads in
       record {
-        stands = leads;
+        leads = leads;
         up = up;
         positive = s .positive;
         near = omega (arith, s .near, g .within);
-        few = fetched-small (g .book) image (onAt at b looks) (g .known .found) s (g .within);
+        few = omega (arith, fetched-small (g .book) image (onAt (g .at) at looks) (g .known .found) s (g .within));
       }
 
-  pub skimming-begins : Skimming image skip at (at .boundary) 0
-  skimming-begins =
-      skimming (at .boundary) 0 (omega arith) (λ book right found s. let z : at .fetched + 0 ≡ at .fetched = omega arith in rw z s)
+  pub skimming-begins : Skimming image skip S b b 0
+  skimming-begins = skimming (omega arith) (lead-none b 0)
 
-  pub skimming-again : {b looks : ℕ} → Skimming image skip at b looks → b ≤ length image
-      → (x : ℕ) → x ≡ getD image (b - 1) 0 → x < 256 → (by : ℕ) → by ≡ getD skip x 0 → (by ≡ 0 → ⊥)
-      → Skimming image skip at (b + by) (looks + 1)
-  skimming-again {b} {looks} k h x is byte by e d =
-      skimming (b + by) (looks + 1) (omega (arith, k .up)) (λ book right found s.
-      let z : at .fetched + (looks + 1) ≡ at .fetched + looks + 1 = omega arith in
-      rw (z, e)
-      (skims book image (onAt at b looks) found (k .stands book right found s) h (g .none) skip right x is byte (rw e at d)))
+  pub skimming-done : {r : Skipped} → Skimming image skip S b (r .boundary) (r .looks) → Skimmed image skip S b 0 r
+  skimming-done k = record { leads = k .leads; up = k .up }
+
+  -- They can be skimmed from there,
+  pub skimmable-on : {at looks : ℕ} → Skimming image skip S b at looks → Skimmable image skip S at 0
+  skimmable-on {at} {looks} k = record {
+    book = g .book;
+    at = onAt (g .at) at looks;
+    known = record { found = g .known .found; stands = stands-on (k .leads) };
+    place = refl;
+    spans = g .spans;
+    within = g .within;
+    right = g .right;
+    short = g .short;
+  }
+
+  -- and S is a shift, which no cached one is above.
+  pub short-some : (1 ≤ S) × (S ≤ 1024)
+  short-some =
+      let s = g .known .stands in (
+        omega (arith, g .short, accepted-setting (g .book) (tokensOf (g .book)) (s .read) .positive),
+        omega (arith, g .short, short-upto (g .book) image (s .read)),
+      )
+
+  pub cached-upto : (c by : ℕ) → Cached image skip c by → by ≤ S
+  cached-upto c by k =
+      let x = getD image (c - 1) 0 in
+      split by 0
+      (λ e. omega arith)
+      (λ d.
+      let r = g .right .right x (k .byte) (λ z. d (k .shift ∙ z)) .1 in
+      omega (arith, k .shift, r, shift-upto (tokensOf (g .book)) S (short-some .0) [] (some x)))

@@ -1,23 +1,29 @@
--- The end of a round: what the skip cache learns, and that the shift, and so the rest, is as the rules say.
-use Prim.Native.Nat.{ℕ, _+_, _-_, _^_, _≤_, _<_}
+-- The end of a round: what the skip cache learns, that the shift is as the rules say, and so what is fetched and remembered.
+use Prim.Native.Nat.{ℕ, _+_, _-_, _*_, _^_, _≤_, _<_}
 use native.Mathlib.Omega.{arith}
 use mathlib.Core.Path.{_≡_, refl, ap, sym, _∙_}
 use mathlib.Core.List.{List}
-use mathlib.Core.Option.{some}
+use mathlib.Core.Bool.{true, _&&_}
+use mathlib.Core.Option.{Option, some, none}
+use borrow.Author.Tests.{eqb-true, ltb-true}
+use lib.Dec.{eqb, ltb}
 use lib.ListN.{length, take, drop, set, length-set}
 use lib.Seq.{getD-set-same, getD-set-other}
 use Rattle.rules.specs.Tokens.{shiftOf, shortestOf}
-use Rattle.rules.specs.Laws.Tests.{split}
+use Rattle.rules.specs.Laws.Tests.{split, and-l, and-r}
 use Rattle.rules.specs.Laws.Limit.Count.{loose}
-use Rattle.image.specs.declared.standing.Standing.{Standing}
 use Rattle.image.specs.declared.walk.Stop.{Stop}
 use Rattle.image.specs.declared.walk.Stop.the-variants.{Byte, Nothing}
 use Rattle.image.specs.declared.walk.Arrival.{Arrival}
+use Rattle.image.specs.declared.turn.Outcome.{Outcome}
+use Rattle.image.specs.declared.spans.Spans.{Spans}
 use Rattle.image.specs.Rounds.{Reached, lowest}
+use Rattle.book.specs.Book.{maxImage}
 use Rattle.image.specs.Spans.{inUse, renewed, Fits}
-use Rattle.image.specs.Rule5.{tokensOf, closingOf, nameOf, BySkip}
-use Rattle.image.specs.Sweeping.{lowestOf, Learns, endAt, shiftAt, Arrives, Turned}
+use Rattle.image.specs.Rule5.{tokensOf, Accepted, closingOf, nameOf, BySkip}
+use Rattle.image.specs.Sweeping.{Standing, Known, lowestOf, Learns, endAt, shiftAt, Ended}
 use Rattle.image.specs.Laws.Roots.{first-shut}
+use Rattle.image.specs.Laws.Spans.{none-renewed, none-loose, loose-upto}
 use Rattle.image.specs.Laws.Sweeping.{depths, matched, raised, renewed-few, stands-fit, fetched-small}
 
 -- The leftmost place.
@@ -41,7 +47,16 @@ by-skip-set {cache = cache} {by = by} x h z c l b = record {
       (λ e. rw (getD-set-other cache x y by 0 e) (b .right y hy));
 }
 
--- A round that ended at an arrival.
+-- The round from a standing ended where the rules say.
+pub record Arrives (book image : List ℕ) (shortest : ℕ) (at : Standing) (arrival : Arrival) : Type 0 where
+  pub read : Accepted book shortest
+  pub known : Known book image at
+  pub place : at .boundary ≤ length image
+  pub below : arrival .node < 16385
+  pub named : nameOf book (arrival .node) ≡ endAt book image (at .boundary) .node
+  pub deep : arrival .depth ≡ endAt book image (at .boundary) .depth
+  pub closing : closingOf (arrival .stop) ≡ endAt book image (at .boundary) .closing
+
 module _ {book image : List ℕ} {S : ℕ} {at : Standing} {arrival : Arrival} (a : Arrives book image S at arrival) where
   abbrev b : ℕ
   b = at .boundary
@@ -67,9 +82,6 @@ module _ {book image : List ℕ} {S : ℕ} {at : Standing} {arrival : Arrival} (
   pub arrives-named : part ≡ nameOf book (arrival .node)
   arrives-named = part-is ∙ sym (a .named)
 
-  pub fits-here : Fits b (at .spans)
-  fits-here = stands-fit book image at (a .known .found) (a .known .stands) (a .within)
-
   -- Its shift.
   module _ (by : ℕ) (e : by ≡ shiftOf (tokensOf book) S part (closingOf (arrival .stop))) where
     by-is : by ≡ shiftAt book image b
@@ -78,8 +90,8 @@ module _ {book image : List ℕ} {S : ℕ} {at : Standing} {arrival : Arrival} (
         e ∙ ap (λ u. shiftOf ts S u (closingOf (arrival .stop))) part-is ∙ ap (shiftOf ts S (r .node)) (a .closing)
         ∙ ap (λ n. shiftOf ts n (r .node) (r .closing)) (a .read .short)
 
-    pub by-near : (1 ≤ by) × (by ≤ 1024)
-    by-near = rw by-is (raised book image at (a .known .found) (a .known .stands) (a .place))
+    pub by-near : by ≤ 1024
+    by-near = rw by-is (raised book image at (a .known .found) (a .known .stands) (a .place) .1)
 
     pub learns : Learns book S d (arrival .stop) by
     learns = record {
@@ -88,24 +100,73 @@ module _ {book image : List ℕ} {S : ℕ} {at : Standing} {arrival : Arrival} (
       right = λ x z c. let k : b - (b - d) ≡ 0 = omega arith in rw (k, c) at e;
     }
 
-    pub few-here : length (renewed (b - d) b (b + by) (inUse (at .spans))) ≤ 5
-    few-here = rw (a .deep, by-is) (renewed-few book image at (a .known .found) (a .known .stands) (a .place))
+    pub ended : (low hits : ℕ) → low ≡ lowestOf b d (arrival .stop)
+        → Ended book image b (record { depth = d; low = low; by = by; hits = hits })
+    ended low hits l = record { deep = a .deep; low = l ∙ lowest-same b d (arrival .stop) r (a .deep) (a .closing); by = by-is }
 
-    pub numbers-here : (d ≤ b) × (1 ≤ by) × (b + by < 2 ^ 32) × (at .fetched ≤ 2 ^ 36)
-    numbers-here = (
-      arrives-deep,
-      by-near .0,
-      omega (arith, by-near, a .place, a .within),
-      fetched-small book image at (a .known .found) (a .known .stands) (a .within),
-    )
+-- Rules 4 to 6 from one standing to the next.
+pub record Turned (book image : List ℕ) (at after : Standing) (hits : ℕ) : Type 0 where
+  pub boundary : after .boundary ≡ at .boundary + shiftAt book image (at .boundary)
+  pub spans : inUse (after .spans)
+      ≡ renewed (at .boundary - endAt book image (at .boundary) .depth) (at .boundary) (at .boundary + shiftAt book image (at .boundary)) (inUse (at .spans))
+  pub few : after .spans .used ≤ 5
+  pub fetched : after .fetched ≡ at .fetched + loose (at .boundary) (lowest (at .boundary) (endAt book image (at .boundary))) (inUse (at .spans))
+  pub counted : after .hits ≡ hits
 
-    pub turned : (after : Standing) (hits : ℕ) → (after .boundary ≡ b + by) × (after .hits ≡ hits)
-        → (inUse (after .spans) ≡ renewed (b - d) b (b + by) (inUse (at .spans))) × (after .spans .used ≤ 5)
-        → after .fetched ≡ at .fetched + loose b (lowestOf b d (arrival .stop)) (inUse (at .spans)) → Turned book image at after hits
-    turned after hits p q f = record {
-      boundary = p .0 ∙ ap (λ n. b + n) by-is;
-      spans = q .0 ∙ rw (a .deep, by-is) refl;
-      few = q .1;
-      fetched = f ∙ ap (λ n. at .fetched + loose b n (inUse (at .spans))) (lowest-same b d (arrival .stop) r (a .deep) (a .closing));
-      counted = p .1;
-    }
+pub turned-as : {book image : List ℕ} {at : Standing} {b hits f g : ℕ} {s t : Spans} → s ≡ t → f ≡ g
+    → Turned book image at (record { boundary = b; spans = t; fetched = g; hits = hits }) hits
+    → Turned book image at (record { boundary = b; spans = s; fetched = f; hits = hits }) hits
+turned-as p q w = rw (p, q) w
+
+low-before : (b d : ℕ) (o : Option ℕ) → elim o [ none ↦ b - d | some x ↦ b - 1 - d ] ≤ b
+low-before b d none = omega arith
+low-before b d (some x) = omega arith
+
+module _ {book image : List ℕ} {at : Standing} {a : Outcome} (k : Known book image at) (h : at .boundary ≤ length image)
+    (w : length image ≤ maxImage) (e : Ended book image (at .boundary) a) where
+  abbrev here : ℕ
+  here = at .boundary
+
+  pub ended-numbers : (a .depth ≤ here) × (a .low ≤ here) × (1 ≤ a .by) × (a .by ≤ 1024) × (here ≤ maxImage) × (at .fetched ≤ 2 ^ 36)
+  ended-numbers =
+      let n = raised book image at (k .found) (k .stands) h in (
+        omega (arith, e .deep, depths book image at (k .found) (k .stands) h),
+        omega (arith, e .low, low-before here (endAt book image here .depth) (endAt book image here .closing)),
+        omega (arith, e .by, n),
+        omega (arith, e .by, n),
+        omega (arith, h, w),
+        fetched-small book image at (k .found) (k .stands) w,
+      )
+
+  pub ended-fits : Fits here (at .spans)
+  ended-fits = stands-fit book image at (k .found) (k .stands) w
+
+  pub ended-few : length (renewed (here - a .depth) here (here + a .by) (inUse (at .spans))) ≤ 5
+  ended-few = rw (e .deep, e .by) (renewed-few book image at (k .found) (k .stands) h)
+
+  pub ended-loose : loose here (a .low) (inUse (at .spans)) ≤ here - a .low
+  ended-loose = loose-upto here (a .low) (inUse (at .spans)) (ended-numbers .1) (ended-fits .each)
+
+  -- With what is then fetched and remembered, the round is over;
+  pub turned : (spans : Spans) (n hits : ℕ)
+      → (inUse spans ≡ renewed (here - a .depth) here (here + a .by) (inUse (at .spans))) × (spans .used ≤ 5)
+      → n ≡ loose here (a .low) (inUse (at .spans))
+      → Turned book image at (record { boundary = here + a .by; spans = spans; fetched = at .fetched + n; hits = hits }) hits
+  turned spans n hits u f = record {
+    boundary = ap (λ n. here + n) (e .by);
+    spans = u .0 ∙ rw (e .deep, e .by) refl;
+    few = u .1;
+    fetched = ap (λ n. at .fetched + n) (f ∙ ap (λ q. loose here q (inUse (at .spans))) (e .low));
+    counted = refl;
+  }
+
+  -- mostly nothing is remembered, before and after.
+  pub turned-bare : (hits : ℕ) → (eqb (at .spans .used) 0 && ltb (a .depth) (4 * a .by)) ≡ true
+      → Turned book image at (record { boundary = here + a .by; spans = at .spans; fetched = at .fetched + (here - a .low); hits = hits }) hits
+  turned-bare hits t =
+      let n = ended-numbers in
+      let bare : at .spans .used ≡ 0 = eqb-true _ _ (and-l (eqb (at .spans .used) 0) _ t) in
+      let l : a .depth < 4 * a .by = ltb-true _ _ (and-r (eqb (at .spans .used) 0) _ t) in
+      turned (at .spans) (here - a .low) hits
+      (none-renewed (at .spans) bare here (a .depth) (a .by) (n .0) (n .2) l, k .stands .few)
+      (sym (none-loose (at .spans) bare here (a .low)))

@@ -1,27 +1,26 @@
 -- What holds of a sweep between its rounds, and what a round does to it.
-use Prim.Native.Nat.{ℕ, _+_, _-_, _≤_, _<_}
+use Prim.Native.Nat.{ℕ, _+_, _-_, _*_, _≤_, _<_}
 use mathlib.Core.Path.{_≡_}
 use mathlib.Core.Bool.{false}
-use mathlib.Core.List.{List, [], _∷_, _++_, map}
+use mathlib.Core.List.{List, [], _∷_, _++_}
 use mathlib.Core.Option.{some}
-use lib.ListN.{length}
+use lib.ListN.{length, getD}
 use Rattle.rules.specs.Lists.{any}
 use Rattle.rules.specs.Rules.{Stretch}
 use Rattle.rules.specs.Tokens.{ends, ofTokens, shiftOf, shortestOf, longestOf}
-use Rattle.rules.specs.Laws.Limit.Count.{loose}
 use Rattle.book.specs.Book.{readBook, accepted, maxImage, maxBody}
 use Rattle.book.specs.Laws.Accepted.{accepted-setting}
 use Rattle.trie.specs.Answers.{tables}
 use Rattle.trie.specs.Laws.Represents.{Represents}
-use Rattle.image.specs.declared.standing.Standing.{Standing}
+use Rattle.image.specs.declared.spans.Spans.{Spans}
+use Rattle.image.specs.declared.skim.Skipped.{Skipped}
+use Rattle.image.specs.declared.turn.Outcome.{Outcome}
 use Rattle.image.specs.declared.walk.Stop.{Stop}
 use Rattle.image.specs.declared.walk.Stop.the-variants.{Byte, Nothing}
-use Rattle.image.specs.declared.walk.Arrival.{Arrival}
 use Rattle.image.specs.Image.{hitsOf, fetchesOf}
 use Rattle.image.specs.Rounds.{Reached, reached, lowest}
-use Rattle.image.specs.Spans.{placesOf, inUse, renewed}
-use Rattle.image.specs.Rule5.{tokensOf, Accepted, closingOf, nameOf, ByNode, ByByte, BySkip}
-use Rattle.image.specs.Walk.{notes}
+use Rattle.image.specs.Spans.{placesOf, inUse}
+use Rattle.image.specs.Rule5.{tokensOf, Accepted, closingOf, ByNode, ByByte, BySkip}
 use Rattle.image.specs.Laws.Round.{Starts, fetchesFrom, hitsFrom}
 
 -- An accepted book, tables that represent its tokens, and an image within its limit.
@@ -31,6 +30,13 @@ pub record Given (book image label token first next : List ℕ) (count shortest 
   pub stands : Represents (tables parent label token first next) count (tokensOf book)
   pub nodes : count ≤ 16385
   pub within : length image ≤ maxImage
+
+-- Where a sweep stands: the boundary, what is remembered, and how many bytes were fetched and hits found so far.
+pub record Standing : Type 0 where
+  pub boundary : ℕ
+  pub spans : Spans
+  pub fetched : ℕ
+  pub hits : ℕ
 
 module _ (book image : List ℕ) where
   -- The sweep has found these hits; what is left to fetch and to find is the rest of what the rules say.
@@ -58,13 +64,6 @@ module _ (book image : List ℕ) where
     pub found : List (ℕ × ℕ)
     pub stands : Stands at found
 
-  -- From one standing to another, with more hits put into the buffers.
-  pub record Goes (at after : Standing) (room : ℕ) (ends ends′ tokens tokens′ : List ℕ) : Type 0 where
-    pub more : List (ℕ × ℕ)
-    pub stands : (found : List (ℕ × ℕ)) → Stands at found → Stands after (found ++ more)
-    pub ends-hold : ends′ ≡ notes room (at .hits) (map (λ h. h .0) more) ends
-    pub tokens-hold : tokens′ ≡ notes room (at .hits) (map (λ h. h .1) more) tokens
-
 -- The caches, right for a book.
 pub record Caches (book : List ℕ) (shortest : ℕ) (nodes bytes skip : List ℕ) : Type 0 where
   pub size : length nodes ≡ 16385
@@ -90,43 +89,55 @@ module _ (book image : List ℕ) where
   abbrev pub shiftAt : ℕ → ℕ
   shiftAt b = shiftOf (tokensOf book) (shortestOf (tokensOf book)) (endAt b .node) (endAt b .closing)
 
-  -- The round from a standing ended where the rules say.
-  pub record Arrives (shortest : ℕ) (at : Standing) (arrival : Arrival) : Type 0 where
-    pub read : Accepted book shortest
-    pub within : length image ≤ maxImage
+  -- A round starts at boundary b, within the image, with so many hits before it.
+  pub record Begun (b hits : ℕ) : Type 0 where
+    pub at : Standing
     pub known : Known book image at
-    pub place : at .boundary ≤ length image
-    pub below : arrival .node < 16385
-    pub named : nameOf book (arrival .node) ≡ endAt (at .boundary) .node
-    pub deep : arrival .depth ≡ endAt (at .boundary) .depth
-    pub closing : closingOf (arrival .stop) ≡ endAt (at .boundary) .closing
+    pub place : at .boundary ≡ b
+    pub so-far : at .hits ≡ hits
+    pub inside : b ≤ length image
 
-  -- Rules 4 to 6 from one standing to the next.
-  pub record Turned (at after : Standing) (hits : ℕ) : Type 0 where
-    pub boundary : after .boundary ≡ at .boundary + shiftAt (at .boundary)
-    pub spans : inUse (after .spans) ≡ renewed (at .boundary - endAt (at .boundary) .depth) (at .boundary) (at .boundary + shiftAt (at .boundary)) (inUse (at .spans))
-    pub few : after .spans .used ≤ 5
-    pub fetched : after .fetched ≡ at .fetched + loose (at .boundary) (lowest (at .boundary) (endAt (at .boundary))) (inUse (at .spans))
-    pub counted : after .hits ≡ hits
+  -- It ends where the rules say, and shifts by as much.
+  pub record Ended (b : ℕ) (a : Outcome) : Type 0 where
+    pub deep : a .depth ≡ endAt b .depth
+    pub low : a .low ≡ lowest b (endAt b)
+    pub by : a .by ≡ shiftAt b
 
--- A sweep with a cache that is right for its book.
-pub record Ahead (image skip : List ℕ) (at : Standing) : Type 0 where
-  pub book : List ℕ
-  pub known : Known book image at
-  pub within : length image ≤ maxImage
-  pub right : BySkip book (shortestOf (tokensOf book)) skip
+-- the standing with another boundary and more places fetched
+abbrev pub onAt : Standing → ℕ → ℕ → Standing
+onAt at b more = record { boundary = b; spans = at .spans; fetched = at .fetched + more; hits = at .hits }
 
--- Rounds that end at their first byte can be skimmed: nothing is remembered, and the cache is right.
-pub record Skimmable (image skip : List ℕ) (at : Standing) : Type 0 where
-  pub book : List ℕ
-  pub known : Known book image at
-  pub within : length image ≤ maxImage
-  pub right : BySkip book (shortestOf (tokensOf book)) skip
-  pub none : at .spans .used ≡ 0
+module _ (image skip : List ℕ) where
+  -- The cache has this shift for a round at boundary b that ends at its first byte; 0: it has none.
+  pub record Cached (b by : ℕ) : Type 0 where
+    pub inside : b ≤ length image
+    pub byte : getD image (b - 1) 0 < 256
+    pub shift : by ≡ getD skip (getD image (b - 1) 0) 0
 
--- They find nothing.
-pub record Skimmed (image skip : List ℕ) (at after : Standing) : Type 0 where
-  pub stands : (book : List ℕ) → BySkip book (shortestOf (tokensOf book)) skip → (found : List (ℕ × ℕ))
-      → Stands book image at found → Stands book image after found
-  pub counted : after .hits ≡ at .hits
-  pub up : at .boundary ≤ after .boundary
+  -- Four such rounds, one after the other, shift by S each.
+  pub record Four (b S : ℕ) : Type 0 where
+    pub one : Cached b S
+    pub two : Cached (b + S) S
+    pub three : Cached (b + 2 * S) S
+    pub four : Cached (b + 3 * S) S
+
+  -- A sweep at boundary b, with so many stretches in use, and a cache that is right for its book.
+  pub record Skimmable (S b used : ℕ) : Type 0 where
+    pub book : List ℕ
+    pub at : Standing
+    pub known : Known book image at
+    pub place : at .boundary ≡ b
+    pub spans : at .spans .used ≡ used
+    pub within : length image ≤ maxImage
+    pub right : BySkip book S skip
+    pub short : S ≡ shortestOf (tokensOf book)
+
+  -- From boundary b to another by rounds that find nothing, with so many looks at the image.
+  pub record Leads (S b used after looks : ℕ) : Type 0 where
+    pub stands : (book : List ℕ) → BySkip book S skip → S ≡ shortestOf (tokensOf book)
+        → (at : Standing) → at .boundary ≡ b → at .spans .used ≡ used
+        → (found : List (ℕ × ℕ)) → Stands book image at found → Stands book image (onAt at after looks) found
+
+  pub record Skimmed (S b used : ℕ) (r : Skipped) : Type 0 where
+    pub leads : Leads S b used (r .boundary) (r .looks)
+    pub up : b ≤ r .boundary

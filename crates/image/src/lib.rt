@@ -4,7 +4,6 @@ mod rounds;
 mod rule5;
 mod skim;
 mod spans;
-mod standing;
 mod turn;
 mod walk;
 

@@ -1,39 +1,88 @@
 // Rounds that end at their first byte, when nothing is remembered and their shift is known: most of a sweep.
-ghost use Rattle.image.specs.Sweeping.{Ahead, Skimmable, Skimmed};
-use crate::standing::Standing;
+ghost use Prim.Native.Nat.{ℕ, _^_, _≤_};
+ghost use mathlib.Core.Path.{_≡_};
+ghost use mathlib.Core.Bool.{true};
+ghost use lib.ListN.{length};
+ghost use Rattle.image.specs.Sweeping.{Cached, Four, Skimmable, Skimmed};
 use crate::walk::wide;
 
-// As many such rounds as come one after the other.
-fn skim(at: Standing, image: &[u8], skip: &[u16]) -> Standing
-    requires { ⌜ Skimmable (now image) (now skip) at ⌝ }
-    ensures { λ r. ⌜ Skimmed (now (image .entry)) (now (skip .entry)) at r ⌝ }
+// How far such rounds lead, and how many there were: each looks at one byte.
+pub struct Skipped {
+    pub boundary: usize,
+    pub looks: usize,
+}
+
+// The shift of a round at boundary b that ends at its first byte, 0 where it is not known.
+fn skip_at(image: &[u8], skip: &[u16], b: usize) -> usize
+    requires { ⌜ (1 ≤ b) × (b ≤ length (now image)) × (length (now skip) ≡ 256) ⌝ }
+    ensures { λ r. ⌜ Cached (now (image .entry)) (now (skip .entry)) b r × (r ≤ 65535) ⌝ }
 {
-    let mut b = at.boundary;
+    wide(skip[image[b - 1] as usize])
+}
+
+// Whether four rounds from b on shift by the shortest token's length each: no look waits for the one before.
+fn full(image: &[u8], skip: &[u16], b: usize, shortest: usize) -> bool
+    requires numbers { ⌜ (1 ≤ b) × (b ≤ 2 ^ 32) × (shortest ≤ 1024) × (length (now skip) ≡ 256) ⌝ }
+    requires upto { ⌜ ((b by : ℕ) → Cached (now image) (now skip) b by → by ≤ shortest) ⌝ }
+    ensures { λ r. ⌜ (r ≡ true → Four (now (image .entry)) (now (skip .entry)) b shortest) ⌝ }
+{
+    if image.len() < b + 3 * shortest {
+        return false;
+    }
+    let near = skip_at(image, skip, b) + skip_at(image, skip, b + shortest);
+    let far = skip_at(image, skip, b + 2 * shortest) + skip_at(image, skip, b + 3 * shortest);
+    near + far == 4 * shortest
+}
+
+// Four at a time, as often as they come one after the other.
+fn stride(b: usize, image: &[u8], skip: &[u16], shortest: usize) -> Skipped
+    requires { ⌜ Skimmable (now image) (now skip) shortest b 0 ⌝ }
+    ensures { λ r. ⌜ Skimmed (now (image .entry)) (now (skip .entry)) shortest b 0 r ⌝ }
+{
+    let mut at = b;
     let mut looks = 0;
-    while b <= image.len() {
-        let by = wide(skip[image[b - 1] as usize]);
+    while full(image, skip, at, shortest) {
+        at += 4 * shortest;
+        looks += 4;
+    }
+    Skipped {
+        boundary: at,
+        looks,
+    }
+}
+
+// As many such rounds as come one after the other.
+fn skim(b: usize, image: &[u8], skip: &[u16], shortest: usize) -> Skipped
+    requires { ⌜ Skimmable (now image) (now skip) shortest b 0 ⌝ }
+    ensures { λ r. ⌜ Skimmed (now (image .entry)) (now (skip .entry)) shortest b 0 r ⌝ }
+{
+    let mut at = b;
+    let mut looks = 0;
+    while at <= image.len() {
+        let by = skip_at(image, skip, at);
         if by == 0 {
             break;
         }
-        b += by;
-        looks += 1;
+        let on = stride(at + by, image, skip, shortest);
+        at = on.boundary;
+        looks += 1 + on.looks;
     }
-    let spans = at.spans;
-    Standing {
-        boundary: b,
-        spans,
-        fetched: at.fetched + looks,
-        hits: at.hits,
+    Skipped {
+        boundary: at,
+        looks,
     }
 }
 
 // Where something is remembered, no round is skimmed.
-pub fn ahead(at: Standing, image: &[u8], skip: &[u16]) -> Standing
-    requires { ⌜ Ahead (now image) (now skip) at ⌝ }
-    ensures { λ r. ⌜ Skimmed (now (image .entry)) (now (skip .entry)) at r ⌝ }
+pub fn ahead(b: usize, used: usize, image: &[u8], skip: &[u16], shortest: usize) -> Skipped
+    requires { ⌜ Skimmable (now image) (now skip) shortest b used ⌝ }
+    ensures { λ r. ⌜ Skimmed (now (image .entry)) (now (skip .entry)) shortest b used r ⌝ }
 {
-    if at.spans.used != 0 {
-        return at;
+    if used != 0 {
+        return Skipped {
+            boundary: b,
+            looks: 0,
+        };
     }
-    skim(at, image, skip)
+    skim(b, image, skip, shortest)
 }

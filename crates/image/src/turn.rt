@@ -1,17 +1,18 @@
-// The end of a round: the shift, what was fetched, and what is remembered.
-ghost use Prim.Native.Nat.{ℕ, _+_, _-_, _^_, _≤_, _<_};
+// A round up to its shift.
+ghost use Prim.Native.Nat.{ℕ, _+_, _*_, _≤_};
 ghost use mathlib.Core.Path.{_≡_};
-ghost use mathlib.Core.List.{List};
+ghost use mathlib.Core.Bool.{_&&_};
+ghost use mathlib.Core.List.{List, map};
+ghost use lib.Dec.{eqb, ltb};
 ghost use lib.ListN.{length};
-ghost use Rattle.rules.specs.Laws.Limit.Count.{loose};
-ghost use Rattle.image.specs.Spans.{inUse, renewed, Fits};
+ghost use Rattle.image.specs.Image.{room};
+ghost use Rattle.image.specs.Rounds.{met};
+ghost use Rattle.image.specs.Walk.{treeIn, Kids, notes};
 ghost use Rattle.image.specs.Rule5.{BySkip};
-ghost use Rattle.image.specs.Sweeping.{lowestOf, Learns, Caches, Arrives, Turned};
+ghost use Rattle.image.specs.Sweeping.{lowestOf, Learns, Given, Caches, Begun, Ended};
 use crate::caches;
-use crate::spans;
-use crate::standing::Standing;
-use crate::walk::Arrival;
 use crate::walk::Stop;
+use crate::walk::meet;
 
 // The leftmost place that a round at boundary b looked at.
 fn lowest(b: usize, depth: usize, stop: Stop) -> usize
@@ -43,56 +44,68 @@ fn learn(skip: &mut [u16], depth: usize, stop: Stop, by: usize)
     }
 }
 
-// Rules 4 and 6, and the places fetched, for a round that ended so and a shift. Mostly nothing is remembered, before or after.
-fn moved(at: Standing, depth: usize, stop: Stop, by: usize, hits: usize) -> Standing
-    requires fits { ⌜ Fits (at .boundary) (at .spans) ⌝ }
-    requires numbers { ⌜ (depth ≤ at .boundary) × (1 ≤ by) × (at .boundary + by < 2 ^ 32) × (at .fetched ≤ 2 ^ 36) ⌝ }
-    requires few { ⌜ length (renewed (at .boundary - depth) (at .boundary) (at .boundary + by) (inUse (at .spans))) ≤ 5 ⌝ }
-    ensures place { λ r. ⌜ (r .boundary ≡ at .boundary + by) × (r .hits ≡ hits) ⌝ }
-    ensures spans { λ r. ⌜
-        (inUse (r .spans) ≡ renewed (at .boundary - depth) (at .boundary) (at .boundary + by) (inUse (at .spans))) × (r .spans .used ≤ 5)
-        ⌝ }
-    ensures fetched { λ r. ⌜ r .fetched ≡ at .fetched + loose (at .boundary) (lowestOf (at .boundary) depth stop) (inUse (at .spans)) ⌝ }
+// Whether nothing is remembered after a round that matched so much, when nothing was before: rule 6 for its own stretch.
+pub fn forgets(used: usize, depth: usize, by: usize) -> bool
+    requires { ⌜ by ≤ 1024 ⌝ }
+    ensures { λ r. ⌜ r ≡ (eqb used 0 && ltb depth (4 * by)) ⌝ }
 {
-    let b = at.boundary;
-    let old = at.spans;
-    let low = lowest(b, depth, stop);
-    if old.used == 0 && depth < 4 * by {
-        return Standing {
-            boundary: b + by,
-            spans: old,
-            fetched: at.fetched + (b - low),
-            hits,
-        };
-    }
-    let fetched = at.fetched + spans::loose(old, low, b);
-    let spans = spans::remember(old, b - depth, b, b + by);
-    Standing {
-        boundary: b + by,
-        spans,
-        fetched,
-        hits,
-    }
+    used == 0 && depth < 4 * by
 }
 
-// Rules 4 to 6 for a round that ended at `arrival`; `hits` is how many there are then.
-pub fn end_round(
-    at: Standing,
-    arrival: Arrival,
+// What a round came to: how deep it went, the leftmost place it looked at, its shift, and how many hits there are then.
+pub struct Outcome {
+    pub depth: usize,
+    pub low: usize,
+    pub by: usize,
+    pub hits: usize,
+}
+
+// A round at boundary b up to its shift: rules 2, 3 and 5.
+pub fn attempt(
+    b: usize,
     hits: usize,
     book: &[u8],
     image: &[u8],
+    label: &[u8],
+    token: &[u16],
+    first: &[u16],
+    next: &[u16],
+    count: usize,
+    kids: &[u16],
     shortest: usize,
+    ends: &mut [u32],
+    tokens: &mut [u32],
     nodes: &mut [u16],
     bytes: &mut [u16],
     skip: &mut [u16],
-) -> Standing
-    requires arrives { ⌜ Arrives (now book) (now image) shortest at arrival ⌝ }
+) -> Outcome
+    requires given { ⌜ Given (now book) (now image) (now label) (now token) (now first) (now next) count shortest ⌝ }
+    requires begun { ⌜ Begun (now book) (now image) b hits ⌝ }
+    requires kids { ⌜ Kids (now label) (now first) (now next) count (now kids) ⌝ }
     requires caches { ⌜ Caches (now book) shortest (now nodes) (now bytes) (now skip) ⌝ }
-    ensures turned { λ r. ⌜ Turned (now (book .entry)) (now (image .entry)) at r hits ⌝ }
+    ensures ended { λ r. ⌜ Ended (now (book .entry)) (now (image .entry)) b r ⌝ }
+    ensures hits { λ r. let found = met (treeIn (now (label .entry)) (now (token .entry)) (now (first .entry)) (now (next .entry)) count) (now (image .entry)) b in
+        ⌜ r .hits ≡ hits + length found ⌝ }
+    ensures ends { λ r. let found = met (treeIn (now (label .entry)) (now (token .entry)) (now (first .entry)) (now (next .entry)) count) (now (image .entry)) b in
+        ⌜ now (ends .exit) ≡ notes (room (now (ends .entry)) (now (tokens .entry))) hits (map (λ h. h .0) found) (now (ends .entry)) ⌝ }
+    ensures tokens { λ r. let found = met (treeIn (now (label .entry)) (now (token .entry)) (now (first .entry)) (now (next .entry)) count) (now (image .entry)) b in
+        ⌜ now (tokens .exit) ≡ notes (room (now (ends .entry)) (now (tokens .entry))) hits (map (λ h. h .1) found) (now (tokens .entry)) ⌝ }
     ensures caches { λ r. ⌜ Caches (now (book .entry)) shortest (now (nodes .exit)) (now (bytes .exit)) (now (skip .exit)) ⌝ }
 {
-    let b = at.boundary;
+    let met = meet(
+        image,
+        label,
+        token,
+        first,
+        next,
+        count,
+        kids,
+        b,
+        hits,
+        ends,
+        tokens,
+    );
+    let arrival = met.arrival;
     let depth = arrival.depth;
     let stop = arrival.stop;
     let from = b - depth;
@@ -106,5 +119,10 @@ pub fn end_round(
         bytes,
     );
     learn(skip, depth, stop, by);
-    moved(at, depth, stop, by, hits)
+    Outcome {
+        depth,
+        low: lowest(b, depth, stop),
+        by,
+        hits: met.hits,
+    }
 }

@@ -1,5 +1,5 @@
 // A round's way down the tree, and the hits on it.
-ghost use Prim.Native.Nat.{ℕ, _+_, _*_, _≤_, _<_};
+ghost use Prim.Native.Nat.{ℕ, _+_, _*_, _^_, _≤_, _<_};
 ghost use mathlib.Core.Path.{_≡_};
 ghost use mathlib.Core.List.{[], map};
 ghost use mathlib.Core.Option.{some};
@@ -166,4 +166,56 @@ pub fn mark(
         }
     }
     n
+}
+
+// Where a round ended, and how many hits there are then.
+pub struct Met {
+    pub arrival: Arrival,
+    pub hits: usize,
+}
+
+// Rules 2 and 3 at boundary b, with the hits put into the buffers. Most rounds have none, so they are looked for a second time.
+pub fn meet(
+    image: &[u8],
+    label: &[u8],
+    token: &[u16],
+    first: &[u16],
+    next: &[u16],
+    count: usize,
+    kids: &[u16],
+    b: usize,
+    hits: usize,
+    ends: &mut [u32],
+    tokens: &mut [u32],
+) -> Met
+    requires place { ⌜ (0 < b) × (b ≤ length (now image)) × (b ≤ 16777216) × (hits ≤ 2 ^ 36) ⌝ }
+    requires tables { ⌜ Walkable (now label) (now token) (now first) (now next) count ⌝ }
+    requires kids { ⌜ Kids (now label) (now first) (now next) count (now kids) ⌝ }
+    ensures arrival { λ r. ⌜ r .arrival ≡ arrivalOf (reached (treeIn (now (label .entry)) (now (token .entry)) (now (first .entry)) (now (next .entry)) count) (now (image .entry)) b) ⌝ }
+    ensures hits { λ r. let found = met (treeIn (now (label .entry)) (now (token .entry)) (now (first .entry)) (now (next .entry)) count) (now (image .entry)) b in
+        ⌜ r .hits ≡ hits + length found ⌝ }
+    ensures ends { λ r. let found = met (treeIn (now (label .entry)) (now (token .entry)) (now (first .entry)) (now (next .entry)) count) (now (image .entry)) b in
+        ⌜ now (ends .exit) ≡ notes (room (now (ends .entry)) (now (tokens .entry))) hits (map (λ h. h .0) found) (now (ends .entry)) ⌝ }
+    ensures tokens { λ r. let found = met (treeIn (now (label .entry)) (now (token .entry)) (now (first .entry)) (now (next .entry)) count) (now (image .entry)) b in
+        ⌜ now (tokens .exit) ≡ notes (room (now (ends .entry)) (now (tokens .entry))) hits (map (λ h. h .1) found) (now (tokens .entry)) ⌝ }
+{
+    let arrival = descend(image, label, token, first, next, count, kids, b);
+    if !arrival.marked {
+        return Met { arrival, hits };
+    }
+    Met {
+        arrival,
+        hits: mark(
+            image,
+            label,
+            token,
+            first,
+            next,
+            count,
+            b,
+            hits,
+            ends,
+            tokens,
+        ),
+    }
 }

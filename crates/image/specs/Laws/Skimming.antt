@@ -10,18 +10,13 @@ use Rattle.rules.specs.Tokens.{ofTokens, shiftOf, shortestOf}
 use Rattle.rules.specs.Laws.Limit.Count.{loose}
 use Rattle.book.specs.Laws.Accepted.{accepted-fit, accepted-some}
 use Rattle.image.specs.declared.spans.Spans.{Spans}
-use Rattle.image.specs.declared.standing.Standing.{Standing}
 use Rattle.image.specs.Rounds.{Reached, reached, met, lowest}
 use Rattle.image.specs.Spans.{inUse, renewed}
 use Rattle.image.specs.Rule5.{tokensOf, BySkip}
-use Rattle.image.specs.Sweeping.{Stands}
+use Rattle.image.specs.Sweeping.{Standing, Stands, onAt}
 use Rattle.image.specs.Laws.Roots.{first-ends}
 use Rattle.image.specs.Laws.Spans.{none-renewed, none-loose}
 use Rattle.image.specs.Laws.Sweeping.{turns, raised, unmet}
-
--- The standing with another boundary and more places fetched.
-abbrev pub onAt : Standing → ℕ → ℕ → Standing
-onAt at b more = record { boundary = b; spans = at .spans; fetched = at .fetched + more; hits = at .hits }
 
 -- What it fetches and remembers, if it ends so at boundary b.
 module _ (f : Spans) (none : f .used ≡ 0) (b x : ℕ) (r : Reached (List ℕ))

@@ -15,12 +15,11 @@ use Rattle.rules.specs.Laws.Exact.Shift.{shift-ge, shift-upto}
 use Rattle.book.specs.Book.{readBook, accepted, maxImage, maxBody}
 use Rattle.rules.specs.Laws.Lengths.{shortest-is}
 use Rattle.book.specs.Laws.Accepted.{accepted-setting, accepted-longest, accepted-some, accepted-fit}
-use Rattle.image.specs.declared.standing.Standing.{Standing}
 use Rattle.image.specs.Image.{hitsOf, fetchesOf}
 use Rattle.image.specs.Rounds.{Reached, reached, met, lowest}
 use Rattle.image.specs.Spans.{Places, placesOf, inUse, renewed, Before, Fits}
 use Rattle.image.specs.Rule5.{tokensOf}
-use Rattle.image.specs.Sweeping.{Stands}
+use Rattle.image.specs.Sweeping.{Standing, Stands}
 use Rattle.image.specs.Laws.Round.{Starts, Round, fetchesFrom, hitsFrom, ending, raise, afterwards, round, first-starts, none-fetched, none-found, fetches-few, hits-few}
 use Rattle.image.specs.Laws.Spans.{loose-places, ended-places, spans-fit, spans-few}
 
@@ -42,7 +41,7 @@ module _ (book image : List ℕ) where
   abbrev D : ℕ
   D = longestOf ts
 
-  short-upto : readBook book ≡ accepted ts → S ≤ maxBody
+  pub short-upto : readBook book ≡ accepted ts → S ≤ maxBody
   short-upto read = let s = shortest-is ts (accepted-some book ts read) in omega (arith, accepted-fit book ts read .each (s .0) (s .1))
 
   -- At the start nothing is found.

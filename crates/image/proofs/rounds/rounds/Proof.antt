@@ -1,63 +1,163 @@
 -- `rounds` meets its contract: the buffers hold the hits found so far (`Rounding`), and the boundary rises.
-use Prim.Native.Nat.{_+_, _-_}
+use Prim.Native.Nat.{_+_, _-_, _^_, _≤_}
 use native.Mathlib.Omega.{arith}
-use mathlib.Core.Path.{sym, _∙_}
+use mathlib.Core.Path.{refl, sym, _∙_}
+use mathlib.Core.Logic.{⊎-elim}
 use borrow.Author.Needs.{needs}
 use lib.ListN.{length}
-use Rattle.image.proofs.Looping.{Rounding, rounding-begins, ends-long, tokens-long, known, rounding-again, rounding-done}
+use Rattle.image.specs.Image.{room}
+use Rattle.image.specs.Sweeping.{Standing}
+use Rattle.image.proofs.Turning.{Turned, ended-numbers, ended-fits, ended-few, ended-loose, turned, turned-bare, turned-as}
+use Rattle.image.proofs.Rounding.{round-goes}
+use Rattle.image.proofs.Looping.{Rounding, rounding-begins, ends-long, tokens-long, known, rounding-small, rounding-skimmable, rounding-skims, rounding-begun, rounding-again, rounding-done}
 use Rattle.image.proofs.rounds.rounds.Statement.{statement}
 use Rattle.image.proofs.rounds.rounds.Tie as tie
 
 abbrev Inv-loop : tie.InvT-loop
-Inv-loop book image label token first next count kids shortest ends₀ tokens₀ nodes₀ bytes₀ skip₀ at₀ ends tokens nodes bytes skip at =
-    Rounding book image shortest ends₀ tokens₀ ends tokens nodes bytes skip at
+Inv-loop book image label token first next count kids shortest ends₀ tokens₀ nodes₀ bytes₀ skip₀ b₀ spans₀ fetched₀ hits₀ ends tokens nodes bytes skip b spans fetched hits =
+    Rounding book image shortest ends₀ tokens₀ ends tokens nodes bytes skip (record { boundary = b; spans = spans; fetched = fetched; hits = hits })
 
 abbrev μ-loop : tie.MeasureT-loop
-μ-loop book image label token first next count kids shortest ends₀ tokens₀ nodes₀ bytes₀ skip₀ at₀ ends tokens nodes bytes skip at =
-    length image + 1 - at .boundary
+μ-loop book image label token first next count kids shortest ends₀ tokens₀ nodes₀ bytes₀ skip₀ b₀ spans₀ fetched₀ hits₀ ends tokens nodes bytes skip b spans fetched hits =
+    length image + 1 - b
 
--- the loop, from a turn's end; and the function's entry, from the loop
-abbrev turn : tie.After-slice-known10 Inv-loop μ-loop → tie.At-loop Inv-loop μ-loop
-turn c =
-    c .before .before .before .before .before .before .before .before .before .before .before .before .before .before .before .before .before .before
-
+-- the function's entry, from the loop; the loop, from the round
 abbrev start : tie.At-loop Inv-loop μ-loop → tie.Start Inv-loop μ-loop
 start c = c .before .before .before .before .before .before .before .before .before .before .before .before .before .before
 
+abbrev turn : tie.After-attempt Inv-loop μ-loop → tie.At-loop Inv-loop μ-loop
+turn m = m .before .before .before .before .before .before .before
+
+-- the round, from what is then remembered
+abbrev tried : tie.Joined1 Inv-loop μ-loop → tie.After-attempt Inv-loop μ-loop
+tried j = j .before .before .before .before .before .before .before .before .before .before .before .before
+
+abbrev here : tie.At-loop Inv-loop μ-loop → Standing
+here c = record { boundary = c .loop .b; spans = c .loop .spans; fetched = c .loop .fetched; hits = c .loop .hits }
+
+inside : (m : tie.After-attempt Inv-loop μ-loop) → turn m .loop .b ≤ length (start (turn m) .args .image .now)
+inside m = m .before .before .before .before .before .before .loop-test .taken
+
+numbers : (m : tie.After-attempt Inv-loop μ-loop) → let b = turn m .loop .b in
+    let r = m .attempt .result in
+    (r .depth ≤ b) × (r .low ≤ b) × (1 ≤ r .by) × (r .by ≤ 1024) × (b ≤ 16777216) × (turn m .loop .fetched ≤ 2 ^ 36)
+numbers m = ended-numbers (known (turn m .loop .inv)) (inside m) (start (turn m) .pre .0 .within) (m .attempt .ensures .0)
+
+-- Where the sweep then stands.
+next : (j : tie.Joined1 Inv-loop μ-loop) → let m = tried j in
+    let a = start (turn m) .args in
+    Turned (a .book .now) (a .image .now) (here (turn m))
+    (record { boundary = turn m .loop .b + m .attempt .result .by; spans = j .if1 .spans; fetched = j .if1 .fetched; hits = m .attempt .result .hits })
+    (m .attempt .result .hits)
+next j = let m = tried j in
+    let k = known (turn m .loop .inv) in
+    let w = start (turn m) .pre .0 .within in
+    let e = m .attempt .ensures .0 in
+    let hits = m .attempt .result .hits in
+    let f = j .before .forgets .ensures in
+    ⊎-elim
+    (λ w1. turned-as (w1 .2) (w1 .3) (turned-bare k (inside m) w e hits (sym f ∙ w1 .0 .taken)))
+    (λ w2. turned-as (w2 .5) (w2 .6) (turned k (inside m) w e (w2 .4 .result) (w2 .1 .result) hits (w2 .4 .ensures) (w2 .1 .ensures)))
+    (j .if1 .came)
+
+again : (j : tie.Joined1 Inv-loop μ-loop) → let m = tried j in
+    let a = start (turn m) .args in
+    let l = m .attempt .last .1 .1 .1 .1 .1 .1 .1 .1 .1 .1 .1 in
+    Rounding (a .book .now) (a .image .now) (a .shortest) (a .ends .now) (a .tokens .now) (l .0) (l .1 .0) (l .1 .1 .0) (l .1 .1 .1 .0) (l .1 .1 .1 .1 .0)
+    (record { boundary = turn m .loop .b + m .attempt .result .by; spans = j .if1 .spans; fetched = j .if1 .fetched; hits = m .attempt .result .hits })
+again j = let m = tried j in
+    let c = turn m in
+    let l = m .attempt .last .1 .1 .1 .1 .1 .1 .1 .1 .1 .1 .1 in
+    let f = m .attempt .ensures .1 in
+    rounding-again (c .loop .inv)
+    (round-goes (start c .pre .0) (known (c .loop .inv)) (inside m) (next j) (f .0) (room (c .loop .ends) (c .loop .tokens))
+    (c .loop .ends) (l .0) (c .loop .tokens) (l .1 .0) (f .1 .0) (f .1 .1 .0))
+    (f .1 .1 .1)
+
+none-requires : tie.Need-none-requires Inv-loop μ-loop
+none-requires c κs = search needs
+
 loop-holds : tie.Need-loop-holds Inv-loop μ-loop
 loop-holds c = let s = c .before .before .before .before .before .before .before .before .before .before .before .before .before in
-    let f = c .fresh in
-    rounding-begins (s .args .ends .now) (s .args .tokens .now) (s .pre .0) (s .pre .1 .1) (f .ensures .0) (f .ensures .1 .0) (f .ensures .1 .1)
+    let e = c .none .ensures in
+    rounding-begins (s .args .ends .now) (s .args .tokens .now) (s .pre .0) (s .pre .1 .1) refl e (refl, refl)
 
-go-on-requires : tie.Need-go-on-requires Inv-loop μ-loop
-go-on-requires c κs = let d = c .before .before .before .before .before in
-    let t = d .before .before in
-    let s = start t in
-    (s .pre .0, ((known (t .loop .inv), d .if1 .taken), (s .pre .1 .0, t .loop .inv .caches)))
+attempt-requires : tie.Need-attempt-requires Inv-loop μ-loop
+attempt-requires c κs = let l = c .before .before .before .before .before .before in
+    let p = start l .pre in
+    (p .0, (rounding-begun (l .loop .inv) (c .before .before .before .before .before .loop-test .taken), (p .1 .0, l .loop .inv .caches)))
+
+forgets-requires : tie.Need-forgets-requires Inv-loop μ-loop
+forgets-requires c κs = numbers (c .before .before .before .before .before .before .before .before .before .before) .3
+
+sub-fetched : tie.Need-sub-fetched Inv-loop μ-loop
+sub-fetched c = omega (arith, numbers (c .before .before .before .before .before .before .before .before .before .before .before .before .before))
+
+add-fetched : tie.Need-add-fetched Inv-loop μ-loop
+add-fetched c = omega (arith, numbers (c .before .before .before .before .before .before .before .before .before .before .before .before .before))
+
+loose-requires : tie.Need-loose-requires Inv-loop μ-loop
+loose-requires c κs = let m = c .before .before .before .before .before .before .before .before .before .before .before .before in
+    let n = numbers m in
+    (ended-fits (known (turn m .loop .inv)) (inside m) (start (turn m) .pre .0 .within) (m .attempt .ensures .0), (n .1, omega (arith, n)))
+
+add-fetched-2 : tie.Need-add-fetched-2 Inv-loop μ-loop
+add-fetched-2 c = let m = c .before .before .before .before .before .before .before .before .before .before .before .before .before in
+    omega (
+      arith,
+      numbers m,
+      c .loose .ensures,
+      ended-loose (known (turn m .loop .inv)) (inside m) (start (turn m) .pre .0 .within) (m .attempt .ensures .0),
+    )
+
+sub-remember : tie.Need-sub-remember Inv-loop μ-loop
+sub-remember c = omega (arith, numbers (c .before .before .before .before .before .before .before .before .before .before .before .before .before .before))
+
+add-remember : tie.Need-add-remember Inv-loop μ-loop
+add-remember c = omega (arith, numbers (c .before .before .before .before .before .before .before .before .before .before .before .before .before .before .before))
+
+remember-requires : tie.Need-remember-requires Inv-loop μ-loop
+remember-requires c κs = let m = c .before .before .before .before .before .before .before .before .before .before .before .before .before .before .before in
+    let n = numbers m in
+    let k = known (turn m .loop .inv) in
+    let w = start (turn m) .pre .0 .within in
+    let e = m .attempt .ensures .0 in
+    (ended-fits k (inside m) w e, ((omega arith, omega arith, omega (arith, n)), ended-few k (inside m) w e))
+
+add-ahead : tie.Need-add-ahead Inv-loop μ-loop
+add-ahead c = omega (arith, numbers (tried (c .before)))
+
+ahead-requires : tie.Need-ahead-requires Inv-loop μ-loop
+ahead-requires c κs = let j = c .before .before in rounding-skimmable (again j) (start (turn (tried j)) .pre .0)
+
+add-fetched-3 : tie.Need-add-fetched-3 Inv-loop μ-loop
+add-fetched-3 c = let j = c .before .before .before .before .before in
+    let g = start (turn (tried j)) .pre .0 in
+    omega (arith, rounding-small (rounding-skims (again j) g (c .before .before .ahead .ensures .leads)) (g .within) .1)
 
 loop-less : tie.Need-loop-less Inv-loop μ-loop
-loop-less c = let d = c .before .before .before .before .before .before .before .before .before .before in omega (arith, d .before .before .before .before .before .before .if1 .taken, d .go-on .ensures .1 .1)
+loop-less c = let m = tried (c .before .before .before .before .before) in omega (arith, numbers m, inside m, c .before .before .ahead .ensures .up)
 
 loop-again : tie.Need-loop-again Inv-loop μ-loop
-loop-again c = let d = c .before .before .before .before .before .before .before .before .before .before in rounding-again (turn c .loop .inv) (d .go-on .ensures .0) (d .go-on .ensures .1 .0)
+loop-again c = let j = c .before .before .before .before .before in rounding-skims (again j) (start (turn (tried j)) .pre .0) (c .before .before .ahead .ensures .leads)
 
 same-length : tie.Need-same-length Inv-loop μ-loop
-same-length c = ends-long (c .before .before .loop .inv)
+same-length c = ends-long (c .before .loop .inv)
 
 same-length-2 : tie.Need-same-length-2 Inv-loop μ-loop
-same-length-2 c = tokens-long (c .before .before .loop .inv)
+same-length-2 c = tokens-long (c .before .loop .inv)
 
 same-length-3 : tie.Need-same-length-3 Inv-loop μ-loop
-same-length-3 c = let t = c .before .before in t .loop .inv .caches .size ∙ sym (start t .pre .1 .1 .size)
+same-length-3 c = let t = c .before in t .loop .inv .caches .size ∙ sym (start t .pre .1 .1 .size)
 
 same-length-4 : tie.Need-same-length-4 Inv-loop μ-loop
-same-length-4 c = let t = c .before .before in t .loop .inv .caches .by-byte .size ∙ sym (start t .pre .1 .1 .by-byte .size)
+same-length-4 c = let t = c .before in t .loop .inv .caches .by-byte .size ∙ sym (start t .pre .1 .1 .by-byte .size)
 
 same-length-5 : tie.Need-same-length-5 Inv-loop μ-loop
-same-length-5 c = let t = c .before .before in t .loop .inv .caches .by-skip .size ∙ sym (start t .pre .1 .1 .by-skip .size)
+same-length-5 c = let t = c .before in t .loop .inv .caches .by-skip .size ∙ sym (start t .pre .1 .1 .by-skip .size)
 
 returns : tie.Need-returns Inv-loop μ-loop
-returns c = rounding-done (c .before .before .loop .inv) (c .if1 .left)
+returns c = rounding-done (c .before .loop .inv) (c .loop-test .left)
 
 pub rounds-spec : {M : Type 1} → statement M
 rounds-spec =
@@ -65,9 +165,20 @@ rounds-spec =
     (tie.spec
     Inv-loop
     μ-loop
-    (λ c κs. search needs)
+    none-requires
     loop-holds
-    go-on-requires
+    attempt-requires
+    forgets-requires
+    sub-fetched
+    add-fetched
+    loose-requires
+    add-fetched-2
+    sub-remember
+    add-remember
+    remember-requires
+    add-ahead
+    ahead-requires
+    add-fetched-3
     loop-less
     loop-again
     same-length

@@ -1,73 +1,71 @@
 -- `skim` meets its contract: the rounds up to the boundary were skimmed; the bytes left of the image get fewer.
-use Prim.Native.Nat.{_+_, _-_, _<_}
+use Prim.Native.Nat.{_+_, _-_}
 use native.Mathlib.Omega.{arith}
-use mathlib.Core.Path.{refl}
-use lib.ListN.{length, getD}
+use mathlib.Core.Path.{_≡_}
 use borrow.Author.Needs.{needs}
-use Rattle.image.proofs.Skimming.{Skimming, skimming-begins, skimming-again, skimming-done}
+use lib.ListN.{length}
+use Rattle.image.proofs.Skimming.{Skimming, lead-on, lead-one, skimming, skimming-begins, skimming-done, skimmable-on}
 use Rattle.image.proofs.skim.skim.Statement.{statement}
 use Rattle.image.proofs.skim.skim.Tie as tie
 
 abbrev Inv-loop : tie.InvT-loop
-Inv-loop at image skip b₀ looks₀ b looks = Skimming image skip at b looks
+Inv-loop b image skip shortest at₀ looks₀ at looks = Skimming image skip shortest b at looks
 
 abbrev μ-loop : tie.MeasureT-loop
-μ-loop at image skip b₀ looks₀ b looks = length image + 1 - b
+μ-loop b image skip shortest at₀ looks₀ at looks = length image + 1 - at
 
 abbrev start : tie.At-loop Inv-loop μ-loop → tie.Start Inv-loop μ-loop
 start c = c .before .before .before
 
+-- with the round that the cache has the shift of
+on : (c : tie.Else1 Inv-loop μ-loop) → let l = c .before .before .before in
+    let a = start l .args in
+    Skimming (a .image .now) (a .skip .now) (a .shortest) (a .b) (l .loop .at + c .before .skip-at .result) (l .loop .looks + 1)
+on c = let l = c .before .before .before in
+    let i = l .loop .inv in
+    skimming (start l .pre) (omega (arith, i .up)) (lead-on (i .leads) (lead-one (c .before .skip-at .ensures .0) (c .if1 .left)))
+
+-- and those after it
+all : (c : tie.After-stride Inv-loop μ-loop) → let l = c .before .before .before .before in
+    let a = start l .args in
+    let r = c .stride .result in
+    Skimming (a .image .now) (a .skip .now) (a .shortest) (a .b) (r .boundary) (l .loop .looks + (1 + r .looks))
+all c = let l = c .before .before .before .before in
+    let r = c .stride .result in
+    let e = c .stride .ensures in
+    let k = on (c .before) in
+    let z : l .loop .looks + (1 + r .looks) ≡ l .loop .looks + 1 + r .looks = omega arith in
+    skimming (start l .pre) (omega (arith, k .up, e .up)) (rw z (lead-on (k .leads) (e .leads)))
+
 loop-holds : tie.Need-loop-holds Inv-loop μ-loop
 loop-holds c = skimming-begins (c .before .before .pre)
 
-sub-wide : tie.Need-sub-wide Inv-loop μ-loop
-sub-wide c = search needs
+skip-at-requires : tie.Need-skip-at-requires Inv-loop μ-loop
+skip-at-requires c κs = let l = c .before in (l .loop .inv .positive, c .loop-test .taken, start l .pre .right .size)
 
-shared-slice-read-wide : tie.Need-shared-slice-read-wide Inv-loop μ-loop
-shared-slice-read-wide c = search needs
+add-stride : tie.Need-add-stride Inv-loop μ-loop
+add-stride c = omega (arith, on c .near)
 
-cast-wide : tie.Need-cast-wide Inv-loop μ-loop
-cast-wide c = omega (arith, c .shared-slice-known3 .given (c .before .before .loop .b - 1))
-
-mul-wide : tie.Need-mul-wide Inv-loop μ-loop
-mul-wide c = omega (arith, c .shared-slice-known3 .given (c .before .before .loop .b - 1))
-
-shared-slice-read-wide-2 : tie.Need-shared-slice-read-wide-2 Inv-loop μ-loop
-shared-slice-read-wide-2 c =
-    let l = c .before .before .before in
-    omega (arith, c .before .shared-slice-known3 .given (l .loop .b - 1), start l .pre .right .size)
-
-wide-requires : tie.Need-wide-requires Inv-loop μ-loop
-wide-requires c κs = search needs
-
-add-b : tie.Need-add-b Inv-loop μ-loop
-add-b c =
-    let l = c .before .before .before .before .before in
-    omega (
-      arith,
-      c .before .wide .ensures,
-      c .before .before .shared-slice-known4 .given (getD (start l .args .image .now) (l .loop .b - 1) 0),
-    )
+stride-requires : tie.Need-stride-requires Inv-loop μ-loop
+stride-requires c κs = skimmable-on (start (c .before .before .before) .pre) (on c)
 
 add-looks : tie.Need-add-looks Inv-loop μ-loop
-add-looks c = search needs
+add-looks c = omega (arith, all (c .before) .few)
+
+add-looks-2 : tie.Need-add-looks-2 Inv-loop μ-loop
+add-looks-2 c = omega (arith, all (c .before) .few)
 
 loop-less : tie.Need-loop-less Inv-loop μ-loop
-loop-less c = search needs
+loop-less c = omega (arith, c .before .before .if1 .left, c .before .stride .ensures .up, c .before .before .before .before .loop-test .taken)
 
 loop-again : tie.Need-loop-again Inv-loop μ-loop
-loop-again c =
-    let l = c .before .before .before .before .before in
-    let x = getD (start l .args .image .now) (l .loop .b - 1) 0 in
-    let byte : x < 256 = omega (arith, c .before .before .before .shared-slice-known3 .given (l .loop .b - 1)) in
-    skimming-again (start l .pre) (l .loop .inv) (c .before .before .before .before .loop-test .taken) x refl byte (c .before .wide .result)
-    (c .before .wide .ensures) (c .if1 .left)
-
-add-t16 : tie.Need-add-t16 Inv-loop μ-loop
-add-t16 c = search needs
+loop-again c = all (c .before)
 
 returns : tie.Need-returns Inv-loop μ-loop
-returns c = skimming-done (c .before .before .before .loop .inv)
+returns c = let l = c .before in skimming-done (start l .pre) (l .loop .inv)
+
+returns-2 : tie.Need-returns-2 Inv-loop μ-loop
+returns-2 c = let l = c .before .before .before in skimming-done (start l .pre) (l .loop .inv)
 
 pub skim-spec : {M : Type 1} → statement M
 skim-spec =
@@ -76,15 +74,12 @@ skim-spec =
     Inv-loop
     μ-loop
     loop-holds
-    sub-wide
-    shared-slice-read-wide
-    cast-wide
-    mul-wide
-    shared-slice-read-wide-2
-    wide-requires
-    add-b
+    skip-at-requires
+    add-stride
+    stride-requires
     add-looks
+    add-looks-2
     loop-less
     loop-again
-    add-t16
-    returns)
+    returns
+    returns-2)

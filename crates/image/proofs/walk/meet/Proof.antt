@@ -4,8 +4,8 @@ use borrow.Author.Tests.{not-true}
 use Rattle.image.specs.Image.{room}
 use Rattle.image.specs.Walk.{treeIn}
 use Rattle.image.proofs.Rounding.{meets-none}
-use Rattle.image.proofs.rounds.meet.Statement.{statement}
-use Rattle.image.proofs.rounds.meet.Tie as tie
+use Rattle.image.proofs.walk.meet.Statement.{statement}
+use Rattle.image.proofs.walk.meet.Tie as tie
 
 returns : tie.Need-returns
 returns c = let d = c .before .before in
