@@ -99,6 +99,16 @@ byhand_found byhand_sweep(const uint8_t *book, const uint8_t *image, size_t n, u
         int closed = 0;
         if (!used) {
             while ((by = skip[x])) {
+                if (b + 3 * shortest <= n) {
+                    const uint8_t *p = image + b - 1;
+                    if (by + (size_t)skip[p[shortest]] + skip[p[2 * shortest]] + skip[p[3 * shortest]] == 4 * shortest) {
+                        found.fetched += 4;
+                        b += 4 * shortest;
+                        if (b > n) return found;
+                        x = image[b - 1];
+                        continue;
+                    }
+                }
                 found.fetched++;
                 b += by;
                 if (b > n) return found;

@@ -20,12 +20,18 @@ fn skip_at(image: &[u8], skip: &[u16], b: usize) -> usize
     wide(skip[image[b - 1] as usize])
 }
 
+// Tokens longer than this have nearly every byte, so that few rounds shift by as much as the shortest.
+const SHORT: usize = 255;
+
 // Whether four rounds from b on shift by the shortest token's length each: no look waits for the one before.
 fn full(image: &[u8], skip: &[u16], b: usize, shortest: usize) -> bool
     requires numbers { ⌜ (1 ≤ b) × (b ≤ 2 ^ 32) × (shortest ≤ 1024) × (length (now skip) ≡ 256) ⌝ }
     requires upto { ⌜ ((b by : ℕ) → Cached (now image) (now skip) b by → by ≤ shortest) ⌝ }
     ensures { λ r. ⌜ (r ≡ true → Four (now (image .entry)) (now (skip .entry)) b shortest) ⌝ }
 {
+    if SHORT < shortest {
+        return false;
+    }
     if image.len() < b + 3 * shortest {
         return false;
     }

@@ -10,14 +10,17 @@ use Rattle.image.proofs.Skimming.{cached-is}
 use Rattle.image.proofs.skim.full.Statement.{statement}
 use Rattle.image.proofs.skim.full.Tie as tie
 
-mul-if1 : tie.Need-mul-if1
-mul-if1 c = search needs
-
-add-if1 : tie.Need-add-if1
-add-if1 c = search needs
-
 returns : tie.Need-returns
 returns c = λ e. absurd (clash false e refl)
+
+mul-if2 : tie.Need-mul-if2
+mul-if2 c = search needs
+
+add-if2 : tie.Need-add-if2
+add-if2 c = search needs
+
+returns-2 : tie.Need-returns-2
+returns-2 c = λ e. absurd (clash false e refl)
 
 skip-at-requires : tie.Need-skip-at-requires
 skip-at-requires c κs = search needs
@@ -58,9 +61,9 @@ add-result c = search needs
 mul-result : tie.Need-mul-result
 mul-result c = search needs
 
-returns-2 : tie.Need-returns-2
-returns-2 c e =
-    let s = c .before .before .before .before .before .before .before in
+returns-3 : tie.Need-returns-3
+returns-3 c e =
+    let s = c .before .before .before .before .before .before .before .before in
     let one = c .before .before .before .skip-at in
     let two = c .before .before .skip-at2 in
     let three = c .before .skip-at3 in
@@ -82,9 +85,10 @@ pub full-spec : {M : Type 1} → statement M
 full-spec =
     tie.close
     (tie.spec
-    mul-if1
-    add-if1
     returns
+    mul-if2
+    add-if2
+    returns-2
     skip-at-requires
     add-skip-at
     skip-at-requires-2
@@ -98,4 +102,4 @@ full-spec =
     add-far
     add-result
     mul-result
-    returns-2)
+    returns-3)
