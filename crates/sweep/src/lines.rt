@@ -1,0 +1,151 @@
+// The lines that are printed, gathered in a buffer so that few writes are made.
+use book::Refusal;
+use image::Found;
+
+// How many bytes the buffer has room for.
+pub const ROOM: usize = 65536;
+
+// How many bytes wait in the buffer, and whether all writes so far went well. After one that did not nothing more is written, so that a
+// last line means that all lines are there.
+pub struct Pen {
+    pub used: usize,
+    pub well: bool,
+}
+
+impl Pen {
+    pub fn new() -> Pen {
+        Pen {
+            used: 0,
+            well: true,
+        }
+    }
+
+    // One byte more. Where the buffer is full it is written, and then the byte.
+    fn byte(self, out: &mut [u8], x: u8) -> Pen {
+        let at = self.used;
+        if at < out.len() {
+            out[at] = x;
+            return Pen {
+                used: at + 1,
+                well: self.well,
+            };
+        }
+        let one = [x];
+        let done = self.flush(out);
+        Pen {
+            used: 0,
+            well: done.well && io::write_all(1, &one),
+        }
+    }
+
+    // Writes what waits.
+    fn flush(self, out: &[u8]) -> Pen {
+        if !self.well {
+            return self;
+        }
+        let n = self.used;
+        if out.len() < n {
+            return Pen {
+                used: 0,
+                well: false,
+            };
+        }
+        Pen {
+            used: 0,
+            well: io::write_all(1, &out[..n]),
+        }
+    }
+
+    fn text(self, out: &mut [u8], s: &[u8]) -> Pen {
+        let mut pen = self;
+        let mut i = 0;
+        while i < s.len() {
+            pen = pen.byte(out, s[i]);
+            i += 1;
+        }
+        pen
+    }
+
+    fn number(self, out: &mut [u8], n: usize) -> Pen {
+        let mut digits = [0u8; 20];
+        let k = io::decimal(n as u64, &mut digits);
+        self.text(out, &digits[..k])
+    }
+
+    // A line of a word and two numbers.
+    fn line(self, out: &mut [u8], word: &[u8], a: usize, b: usize) -> Pen {
+        let one = self.text(out, word).number(out, a);
+        one.text(out, b" ").number(out, b).text(out, b"\n")
+    }
+
+    // The first line: the image's length and the number of tokens.
+    pub fn head(self, out: &mut [u8], image: usize, tokens: usize) -> Pen {
+        let one = self.text(out, b"image ").number(out, image);
+        one.text(out, b" tokens ")
+            .number(out, tokens)
+            .text(out, b"\n")
+    }
+
+    pub fn hit(self, out: &mut [u8], end: usize, token: usize) -> Pen {
+        self.line(out, b"hit ", end, token)
+    }
+
+    // The last line: how many hits there were and how many bytes were fetched.
+    pub fn end(self, out: &mut [u8], hits: usize, fetched: usize) {
+        self.line(out, b"end ", hits, fetched).finish(out)
+    }
+
+    // Writes what is left, and says so if not all could be written.
+    pub fn finish(self, out: &[u8]) {
+        let done = self.flush(out);
+        if !done.well {
+            os::fail(b"sweep: not all lines could be written");
+        }
+    }
+}
+
+// A refusal is the only line.
+pub fn refused(number: usize, value: usize) {
+    let mut out = [0u8; ROOM];
+    Pen::new()
+        .line(&mut out, b"refused ", number, value)
+        .finish(&out)
+}
+
+// The book's refusals, 1 to 6.
+pub fn refusal(why: Refusal) {
+    match why {
+        Refusal::Unfinished(at) => refused(1, at),
+        Refusal::UnknownKind(at) => refused(2, at),
+        Refusal::Trailing(at) => refused(3, at),
+        Refusal::Repeat(at) => refused(4, at),
+        Refusal::OverLimits(at) => refused(5, at),
+        Refusal::NoToken => refused(6, 0),
+    }
+}
+
+fn wide(x: u32) -> usize {
+    x as usize
+}
+
+// An entry of a hit buffer; all hits that are listed have one.
+fn entry(buffer: &[u32], at: usize) -> usize {
+    if at < buffer.len() {
+        wide(buffer[at])
+    } else {
+        0
+    }
+}
+
+// The lines of a sweep whose hits are all in the buffers.
+pub fn whole(image: usize, known: usize, found: Found, ends: &[u32], tokens: &[u32]) {
+    let mut out = [0u8; ROOM];
+    let hits = found.hits;
+    let mut pen = Pen::new().head(&mut out, image, known);
+    let mut i = 0;
+    while i < hits {
+        pen = pen.hit(&mut out, entry(ends, i), entry(tokens, i));
+        i += 1;
+    }
+    pen.end(&mut out, hits, found.fetched)
+}
