@@ -1,0 +1,119 @@
+#!/usr/bin/env python3
+"""Makes a revocation book from a list of tokens, and shows what is in a book.
+
+  tools/book.py make TOKENS.txt BOOK.bin   one token a line, in hex; blank lines are passed over, and so is what follows a '#'
+  tools/book.py show BOOK.bin              the tokens as such a list, or why the book is refused
+
+'-' is standard input or output. Exit code 1: the list or the book is refused; 2: a file can't be used, or the words are wrong.
+"""
+import argparse
+import os
+import pathlib
+import sys
+
+sys.path.insert(0, str(pathlib.Path(__file__).resolve().parent.parent / "plain"))
+import books
+import tables
+
+WHY = {
+    1: "the book runs out in the record at this place, or before its closing 00h",
+    2: "the kind at this place is above 44h",
+    3: "there are bytes after the closing 00h",
+    4: "the token of the record at this place is an earlier one again",
+    5: "with the record at this place there are more than 256 tokens or 16,384 body bytes",
+    6: "there is no token in the book",
+}
+
+
+class Refused(Exception):
+    """What is wrong with a list or a book, in one line."""
+
+
+def tokens_of(text, name):
+    """The tokens of a list, each with the number of its line."""
+    found = []
+    for number, line in enumerate(text.split("\n"), 1):
+        word = line.split("#")[0].strip()
+        try:
+            body = bytes.fromhex(word)
+        except ValueError:
+            raise Refused(f"{name}: line {number}: this is not hex, two digits a byte") from None
+        if word and len(body) not in books.KINDS:
+            raise Refused(f"{name}: line {number}: {len(body)} bytes; a token has 1 to 64, 128, 256, 512 or 1024")
+        if word:
+            found.append((number, body))
+    return found
+
+
+def made(text, name):
+    """The book of a list. What a book can't hold is what a reader refuses."""
+    found = tokens_of(text, name)
+    bodies = [body for _, body in found]
+    book = books.book_of(bodies)
+    reading = tables.read(book)
+    if reading[0] == "accepted":
+        return book
+    if reading[1] == 6:
+        raise Refused(f"{name}: no token; a book has at least one")
+    starts = [sum(1 + len(body) for body in bodies[:i]) for i in range(len(bodies))]
+    line, body = found[starts.index(reading[2])]
+    if reading[1] == 4:
+        raise Refused(f"{name}: line {line}: this token stands in line {found[bodies.index(body)][0]} already")
+    raise Refused(f"{name}: line {line}: with this token the book is over its limits, 256 tokens and 16,384 bytes of tokens")
+
+
+def shown(book):
+    """The book as a list."""
+    reading = tables.read(book)
+    if reading[0] == "refused":
+        raise Refused("refused {} {}: {}".format(*reading[1:], WHY[reading[1]]))
+    return "".join(f"# token {i}, {len(body)} bytes\n{body.hex()}\n" for i, body in enumerate(reading[1], 1))
+
+
+def content(name):
+    return sys.stdin.buffer.read() if name == "-" else pathlib.Path(name).read_bytes()
+
+
+def write(name, data):
+    if name != "-":
+        pathlib.Path(name).write_bytes(data)
+        return
+    sys.stdout.buffer.write(data)
+    sys.stdout.buffer.flush()
+
+
+class Parser(argparse.ArgumentParser):
+    def error(self, message):
+        self.exit(2, f"book.py: {message}; --help says more\n")
+
+
+def main():
+    parser = Parser(prog="tools/book.py", description=__doc__, formatter_class=argparse.RawDescriptionHelpFormatter)
+    commands = parser.add_subparsers(dest="command", required=True, metavar="make|show")
+    make = commands.add_parser("make", help="make a book from a list of tokens")
+    make.add_argument("tokens", metavar="TOKENS.txt")
+    make.add_argument("book", metavar="BOOK.bin")
+    show = commands.add_parser("show", help="show the tokens of a book")
+    show.add_argument("book", metavar="BOOK.bin")
+    asked = parser.parse_args()
+    try:
+        if asked.command == "make":
+            write(asked.book, made(content(asked.tokens).decode("latin-1"), asked.tokens))
+        else:
+            write("-", shown(content(asked.book)).encode())
+    except Refused as why:
+        if asked.command == "make":
+            parser.exit(1, f"book.py: {why}\n")
+        print(why)
+        sys.exit(1)
+    except BrokenPipeError:
+        os.dup2(os.open(os.devnull, os.O_WRONLY), 1)
+        sys.exit(2)
+    except (OSError, ValueError) as why:
+        parser.exit(2, f"book.py: {getattr(why, 'filename', None) or 'file'}: {getattr(why, 'strerror', None) or why}\n")
+    except KeyboardInterrupt:
+        sys.exit(2)
+
+
+if __name__ == "__main__":
+    main()
