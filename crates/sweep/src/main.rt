@@ -1,16 +1,23 @@
 // Sweeps image.bin for the tokens of book.bin, both in the folder it is run in, and lists all hits; or prints why it cannot.
+ghost use Prim.Native.Nat.{ℕ};
+ghost use mathlib.Core.Path.{_≡_};
+ghost use mathlib.Core.List.{List};
+ghost use lib.ListN.{take};
 ghost use Rattle.io.specs.Counts.{Counts};
+ghost use Rattle.book.specs.Book.{readBook, summary};
+ghost use Rattle.book.specs.Answers.{verdictOf};
+ghost use Rattle.sweep.specs.Prefix.{needed};
 
 mod bytewise;
 mod lines;
 
+use book::Book;
 use book::Reading;
 use image::Swept;
 
-// As much of a book as can change its answer: at most 16,640 bytes of records are taken (256 kinds and 16,384 body bytes), and the next
-// record is judged by its kind and at most 1,024 bytes more. So it is whole here, or as short as it is in the file; and whether bytes
-// follow a 00h shows too.
-const BOOK: usize = 17665;
+// As much of a book as can change its answer: at most 256 kinds and 16,384 body bytes are taken, and the next record is judged by its
+// kind and at most 1,024 bytes more. `Prefix` proves it.
+const BOOK: usize = Book::TOKENS + Book::BODIES + 1 + Book::BODY;
 
 // One byte more than an image may have.
 const IMAGE: usize = 65537;
@@ -91,9 +98,16 @@ fn sweep(book: &[u8], image: &[u8], known: usize) {
     );
 }
 
+// Reads a book of which this is the start, or the whole where it is shorter: the answer is the whole book's.
+fn read(start: &[u8]) -> Reading
+    ensures { λ r. ⌜ ((book : List ℕ) → now (start .entry) ≡ take needed book → verdictOf r ≡ summary (readBook book)) ⌝ }
+{
+    book::read(start)
+}
+
 // The book's refusals come first, then 8.
 fn run(book: &[u8], image: &[u8]) {
-    match book::read(book) {
+    match read(book) {
         Reading::Refused(why) => lines::refusal(why),
         Reading::Accepted(totals) => {
             if IMAGE <= image.len() {

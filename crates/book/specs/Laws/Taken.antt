@@ -51,7 +51,7 @@ pub record Taken (book : List ℕ) (at : ℕ) (tokens : List (List ℕ)) : Type 
   pub small : total tokens + sizeAt book at ≤ maxBodies
   pub new : repeats book at tokens ≡ false
 
-bodyLength-range : (kind : ℕ) → 1 ≤ kind → kind ≤ 68 → (1 ≤ bodyLength kind) × (bodyLength kind ≤ maxBody)
+pub bodyLength-range : (kind : ℕ) → 1 ≤ kind → kind ≤ 68 → (1 ≤ bodyLength kind) × (bodyLength kind ≤ maxBody)
 bodyLength-range kind h k =
     decide (λ n. (1 ≤ n) × (n ≤ maxBody)) (leb kind 64) _ _ (λ t. omega (arith, leb-true kind 64 t))
     (λ f. omega (

@@ -1,0 +1,2 @@
+-- How much of a book its reader needs.
+pub mod Prefix
