@@ -11,7 +11,7 @@ use Rattle.rules.specs.Laws.Tests.{split}
 use Rattle.trie.specs.Tables.{over}
 use Rattle.trie.specs.Walks.{ending, depth, lifted}
 use Rattle.trie.specs.Laws.Shape.{Falling, way-step}
-use Rattle.scan.specs.Ways.{paths, Rises}
+use Rattle.scan.specs.Ways.{paths, Rises, Along}
 
 -- What is left to write of a node's ending: that of `at`, from index n on.
 pub record Spelling (parent label : List ℕ) (count node : ℕ) (into₀ into : List ℕ) (at n : ℕ) : Type 0 where
@@ -41,6 +41,32 @@ module _ {parent : List ℕ} {count : ℕ} (rises : Rises parent count) where
         sum = omega (arith, s .sum, ap length step);
         rest = rw add-one (sym (ap (sets into n) step) ∙ s .rest);
       })
+
+    -- A run of nodes, written one after another.
+    module _ {node n : ℕ} {into after : List ℕ} {at to : ℕ} (s : Along parent label node n into at to after) (below : node < count) where
+      run-step : ending (paths parent label) at ≡ getD label at 0 ∷ ending (paths parent label) (getD parent at 0)
+      run-step = way-step (paths parent label) count falls at (s .up) (omega (arith, s .high))
+
+      pub run-room : to < n + depth (paths parent label) node
+      run-room = omega (arith, s .sum, ap length run-step)
+
+      pub run-again : 1 < at → getD parent at 0 ≡ at - 1 → Along parent label node n into (at - 1) (to + 1) (set after to (getD label at 0))
+      run-again h e = rw (sym e) (record {
+        up = omega arith;
+        high = omega (arith, s .high);
+        sum = omega (arith, s .sum, ap length run-step);
+        rest = rw add-one (sym (ap (sets after to) run-step) ∙ s .rest);
+      })
+
+-- Spelling goes on behind a run.
+pub spelling-runs : {parent label : List ℕ} {count node : ℕ} {into₀ into after : List ℕ} {at n end to : ℕ}
+    → Spelling parent label count node into₀ into at n → Along parent label at n into end to after
+    → Spelling parent label count node into₀ after end to
+spelling-runs s a = record {
+  below = omega (arith, s .below, a .high);
+  sum = omega (arith, s .sum, a .sum);
+  rest = a .rest ∙ s .rest;
+}
 
 pub spelling-done : (parent label : List ℕ) (count node : ℕ) (into₀ into : List ℕ) (at n : ℕ)
     → Spelling parent label count node into₀ into at n → at ≡ 0 → depth (paths parent label) node ≤ length into₀

@@ -1,11 +1,12 @@
 -- What a function asks of tables that it climbs: the way up from a node ends at the root. Tables that pass refusal 9 have it.
-use Prim.Native.Nat.{ℕ, _≤_, _<_}
+use Prim.Native.Nat.{ℕ, _+_, _≤_, _<_}
 use mathlib.Core.Path.{_≡_}
 use mathlib.Core.List.{List, []}
 use lib.ListN.{length, getD}
+use lib.Seq.{sets}
 use Rattle.book.specs.Book.{maxBody}
 use Rattle.trie.specs.Tables.{Tables}
-use Rattle.trie.specs.Walks.{depth}
+use Rattle.trie.specs.Walks.{ending, depth}
 use Rattle.trie.specs.Answers.{tables}
 
 -- as far as endings go
@@ -39,3 +40,10 @@ pub record Spells (parent label : List ℕ) (node : ℕ) : Type 0 where
   pub below : node < count
   pub labels : count ≤ length label
   pub deep : depth (paths parent label) node ≤ maxBody
+
+-- From writing the ending of `node` at index n on, what is left is to write that of `at`, a node not above it, at index `to` on.
+pub record Along (parent label : List ℕ) (node n : ℕ) (into : List ℕ) (at to : ℕ) (after : List ℕ) : Type 0 where
+  pub up : 0 < at
+  pub high : at ≤ node
+  pub sum : to + depth (paths parent label) at ≡ n + depth (paths parent label) node
+  pub rest : sets after to (ending (paths parent label) at) ≡ sets into n (ending (paths parent label) node)

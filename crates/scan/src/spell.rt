@@ -1,17 +1,45 @@
 // A node's ending, and the nodes above it, by climbing its parents.
 
+ghost use Prim.Native.Nat.{_+_, _≤_, _<_};
 ghost use mathlib.Core.Path.{_≡_};
 ghost use mathlib.Core.List.{[]};
 ghost use lib.ListN.{length};
 ghost use Rattle.trie.specs.Tables.{over};
 ghost use Rattle.trie.specs.Walks.{ending, depth, lifted};
-ghost use Rattle.scan.specs.Ways.{paths, Climbs, Spells};
+ghost use Rattle.scan.specs.Ways.{paths, Climbs, Spells, Along};
 
 // The number of a node, as an index.
 fn wide(x: u16) -> usize
     ensures { λ r. ⌜ r ≡ x ⌝ }
 {
     x as usize
+}
+
+// How far an ending is written: up to index n, and what is left is the ending of `at`.
+pub struct Spot {
+    pub at: usize,
+    pub n: usize,
+}
+
+// Writes on from index n, up to the first node whose parent is not the node before it. By counting, since a turn that went where a
+// parent says would wait for it to be read.
+fn spell_run(parent: &[u16], label: &[u8], node: usize, n: usize, into: &mut [u8; 1024]) -> Spot
+    requires way { ⌜ Spells (now parent) (now label) node × (0 < node) ⌝ }
+    requires room { ⌜ n + depth (paths (now parent) (now label)) node ≤ 1024 ⌝ }
+    ensures { λ r. ⌜ Along (now (parent .entry)) (now (label .entry)) node n (now (into .entry)) (r .at) (r .n) (now (into .exit)) ⌝ }
+{
+    let mut at = node;
+    let mut to = n;
+    while 1 < at {
+        let below = at - 1;
+        if wide(parent[at]) != below {
+            return Spot { at, n: to };
+        }
+        into[to] = label[at];
+        to += 1;
+        at = below;
+    }
+    Spot { at, n: to }
 }
 
 // Writes the ending of `node` from index 0 on, and answers its length; the bytes behind it stay.
@@ -24,9 +52,12 @@ pub fn spell(parent: &[u16], label: &[u8], node: usize, into: &mut [u8; 1024]) -
     let mut at = node;
     let mut n = 0;
     while at != 0 {
-        into[n] = label[at];
-        at = wide(parent[at]);
-        n += 1;
+        let run = spell_run(parent, label, at, n, into);
+        let end = run.at;
+        let to = run.n;
+        into[to] = label[end];
+        at = wide(parent[end]);
+        n = to + 1;
     }
     n
 }
