@@ -11,7 +11,7 @@ use Rattle.rules.specs.Laws.Tests.{split}
 use Rattle.trie.specs.Tables.{over}
 use Rattle.trie.specs.Walks.{ending, depth, lifted}
 use Rattle.trie.specs.Laws.Shape.{Falling, way-step}
-use Rattle.scan.specs.Ways.{paths, Rises, Along}
+use Rattle.scan.specs.Ways.{paths, Rises, Along, Run}
 
 -- What is left to write of a node's ending: that of `at`, from index n on.
 pub record Spelling (parent label : List ℕ) (count node : ℕ) (into₀ into : List ℕ) (at n : ℕ) : Type 0 where
@@ -85,3 +85,46 @@ lift-again parent at zero w h e = absurd (h refl)
 lift-again parent at (suc left) w h e =
     let z : suc left - 1 ≡ left = omega arith in
     rw (z, e)
+
+-- Above the root is the root.
+lifted-root : (parent : List ℕ) → getD parent 0 0 ≡ 0 → (k : ℕ) → lifted (paths parent []) k 0 ≡ 0
+lifted-root parent e zero = refl
+lifted-root parent e (suc k) = rw e (lifted-root parent e k)
+
+-- One node of a run more is climbed.
+pub run-begins : (parent : List ℕ) (node low : ℕ) → low ≤ node → Run parent node low node
+run-begins parent node low h = record {
+  bound = h;
+  high = omega arith;
+  deep = refl;
+  lift = λ k. let z : k + (node - node) ≡ k = omega arith in rw z;
+}
+
+module _ {parent : List ℕ} {count : ℕ} (rises : Rises parent count) {node low at : ℕ} (r : Run parent node low at) where
+  pub run-climbs : node < count → low < at → getD parent at 0 ≡ at - 1 → Run parent node low (at - 1)
+  run-climbs h up e = rw (sym e) (record {
+    bound = omega arith;
+    high = omega (arith, r .high);
+    deep = omega (arith, r .deep, ap length (way-step (paths parent []) count (falls rises []) at (omega arith) (omega (arith, r .high))));
+    lift = λ k. let z : k + (node - getD parent at 0) ≡ suc k + (node - at) = omega (arith, r .high) in rw z (r .lift (suc k));
+  })
+
+  -- Where a lift ends in the run.
+  pub lift-ends : (left : ℕ) → low ≡ node - left → at ≡ low → at ≡ lifted (paths parent []) left node
+  lift-ends left e f =
+      let k = left - (node - at) in
+      let z : left ≡ k + (node - at) = omega (arith, r .high) in
+      let stays : lifted (paths parent []) k at ≡ at =
+          split k 0 (λ q. ap (λ n. lifted (paths parent []) n at) q)
+          (λ q. let o : at ≡ 0 = omega arith in ap (lifted (paths parent []) k) o ∙ lifted-root parent (rises .root) k ∙ sym o) in
+      sym (ap (λ n. lifted (paths parent []) n node) z ∙ r .lift k ∙ stays)
+
+  -- And where it goes on behind it.
+  pub lift-goes : (left w : ℕ) → low ≡ node - left → (at ≡ low → ⊥) → w ≡ getD parent at 0
+      → lifted (paths parent []) (left - (node - at + 1)) w ≡ lifted (paths parent []) left node
+  lift-goes left w e f q =
+      let k = left - (node - at) in
+      let z : left ≡ k + (node - at) = omega (arith, r .bound, r .high) in
+      let y : left - (node - at + 1) ≡ k - 1 = omega arith in
+      ap (λ n. lifted (paths parent []) n w) y ∙ lift-again parent at k w (λ o. omega (arith, r .bound, r .high)) q ∙ sym (r .lift k)
+      ∙ sym (ap (λ n. lifted (paths parent []) n node) z)

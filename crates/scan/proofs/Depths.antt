@@ -1,5 +1,5 @@
 -- How deep a node lies: the loop that climbs from it, and that only parents count.
-use Prim.Native.Nat.{ℕ, zero, suc, _+_, _≤_, _<_}
+use Prim.Native.Nat.{ℕ, zero, suc, _+_, _-_, _≤_, _<_}
 use native.Mathlib.Omega.{arith}
 use mathlib.Core.Path.{_≡_, refl, ap}
 use mathlib.Core.Bool.{Bool, true, false}
@@ -15,7 +15,7 @@ use Rattle.trie.specs.Laws.Unbroken.{unbroken}
 use Rattle.scan.specs.declared.Scan.{Scan}
 use Rattle.scan.specs.State.{rising}
 use Rattle.trie.specs.Answers.{tables}
-use Rattle.scan.specs.Ways.{paths, Rises}
+use Rattle.scan.specs.Ways.{paths, Rises, Run}
 use Rattle.scan.specs.Ranges.{Passing}
 
 -- The climb stands at `at`, n below the start.
@@ -43,8 +43,13 @@ module _ {parent : List ℕ} {count : ℕ} (rises : Rises parent count) where
     pub climb-falls : getD parent at 0 < at
     climb-falls = rises .ups at (omega arith) (s .below)
 
-    pub climb-again : Climb parent count node (getD parent at 0) (n + 1)
-    climb-again = record { below = omega (arith, climb-falls, s .below); sum = omega (arith, s .sum, deeper) }
+    pub climb-again : (w m : ℕ) → w ≡ getD parent at 0 → m ≡ n + 1 → Climb parent count node w m
+    climb-again w m e f = rw (e, f) (record { below = omega (arith, climb-falls, s .below); sum = omega (arith, s .sum, deeper) })
+
+-- A climb goes on behind a run.
+pub climb-runs : {parent : List ℕ} {count node at n low end : ℕ} → Climb parent count node at n → Run parent at low end
+    → Climb parent count node end (n + (at - end))
+climb-runs s r = record { below = omega (arith, s .below, r .high); sum = omega (arith, s .sum, r .high, r .deep) }
 
 pub climb-done : {parent : List ℕ} {count node at n : ℕ} → Climb parent count node at n → at ≡ 0
     → n ≡ depth (paths parent []) node

@@ -1,12 +1,12 @@
 -- What a function asks of tables that it climbs: the way up from a node ends at the root. Tables that pass refusal 9 have it.
-use Prim.Native.Nat.{ℕ, _+_, _≤_, _<_}
+use Prim.Native.Nat.{ℕ, _+_, _-_, _≤_, _<_}
 use mathlib.Core.Path.{_≡_}
 use mathlib.Core.List.{List, []}
 use lib.ListN.{length, getD}
 use lib.Seq.{sets}
 use Rattle.book.specs.Book.{maxBody}
 use Rattle.trie.specs.Tables.{Tables}
-use Rattle.trie.specs.Walks.{ending, depth}
+use Rattle.trie.specs.Walks.{ending, depth, lifted}
 use Rattle.trie.specs.Answers.{tables}
 
 -- as far as endings go
@@ -47,3 +47,10 @@ pub record Along (parent label : List ℕ) (node n : ℕ) (into : List ℕ) (at 
   pub high : at ≤ node
   pub sum : to + depth (paths parent label) at ≡ n + depth (paths parent label) node
   pub rest : sets after to (ending (paths parent label) at) ≡ sets into n (ending (paths parent label) node)
+
+-- The nodes from `node` down to `end`, none below `low`, lie one above another.
+pub record Run (parent : List ℕ) (node low end : ℕ) : Type 0 where
+  pub bound : low ≤ end
+  pub high : end ≤ node
+  pub deep : node + depth (paths parent []) end ≡ end + depth (paths parent []) node
+  pub lift : (k : ℕ) → lifted (paths parent []) (k + (node - end)) node ≡ lifted (paths parent []) k end

@@ -2,6 +2,8 @@
 
 use crate::Scan;
 use crate::Stretch;
+use crate::spell::run_end;
+use crate::spell::wide;
 ghost use Prim.Native.Nat.{ℕ, _≤_, _<_};
 ghost use mathlib.Core.Path.{_≡_};
 ghost use mathlib.Core.Bool.{_&&_};
@@ -34,7 +36,7 @@ fn between(low: usize, x: usize, high: usize) -> bool
     low <= x && x <= high
 }
 
-// How deep a node lies, by climbing to the root.
+// How deep a node lies, by climbing to the root, a run a turn.
 fn climbed(parent: &[u16], node: usize) -> usize
     requires { ⌜ Climbs (now parent) node ⌝ }
     ensures { λ r. ⌜ r ≡ depth (paths (now (parent .entry)) []) node ⌝ }
@@ -42,8 +44,9 @@ fn climbed(parent: &[u16], node: usize) -> usize
     let mut at = node;
     let mut n = 0;
     while at != 0 {
-        at = parent[at] as usize;
-        n += 1;
+        let end = run_end(parent, at, 1);
+        n += at - end + 1;
+        at = wide(parent[end]);
     }
     n
 }

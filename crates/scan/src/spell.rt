@@ -1,15 +1,15 @@
 // A node's ending, and the nodes above it, by climbing its parents.
 
-ghost use Prim.Native.Nat.{_+_, _≤_, _<_};
+ghost use Prim.Native.Nat.{_+_, _-_, _≤_, _<_};
 ghost use mathlib.Core.Path.{_≡_};
 ghost use mathlib.Core.List.{[]};
 ghost use lib.ListN.{length};
 ghost use Rattle.trie.specs.Tables.{over};
 ghost use Rattle.trie.specs.Walks.{ending, depth, lifted};
-ghost use Rattle.scan.specs.Ways.{paths, Climbs, Spells, Along};
+ghost use Rattle.scan.specs.Ways.{paths, Climbs, Spells, Along, Run};
 
 // The number of a node, as an index.
-fn wide(x: u16) -> usize
+pub fn wide(x: u16) -> usize
     ensures { λ r. ⌜ r ≡ x ⌝ }
 {
     x as usize
@@ -62,6 +62,29 @@ pub fn spell(parent: &[u16], label: &[u8], node: usize, into: &mut [u8; 1024]) -
     n
 }
 
+// The last node of the run from `node` up, and none below `low`: each before it has the node before it for parent.
+pub fn run_end(parent: &[u16], node: usize, low: usize) -> usize
+    requires { ⌜ Climbs (now parent) node × (low ≤ node) ⌝ }
+    ensures { λ r. ⌜ Run (now (parent .entry)) node low r ⌝ }
+{
+    let mut at = node;
+    while low < at {
+        let below = at - 1;
+        if wide(parent[at]) != below {
+            return at;
+        }
+        at = below;
+    }
+    at
+}
+
+// The difference, or 0.
+fn less(x: usize, y: usize) -> usize
+    ensures { λ r. ⌜ r ≡ x - y ⌝ }
+{
+    if y < x { x - y } else { 0 }
+}
+
 // The node `n` above `node`; above the root is the root.
 pub fn lift(parent: &[u16], node: usize, n: usize) -> usize
     requires { ⌜ Climbs (now parent) node ⌝ }
@@ -70,8 +93,13 @@ pub fn lift(parent: &[u16], node: usize, n: usize) -> usize
     let mut at = node;
     let mut left = n;
     while left != 0 {
-        at = wide(parent[at]);
-        left -= 1;
+        let low = less(at, left);
+        let end = run_end(parent, at, low);
+        if end == low {
+            return end;
+        }
+        left -= at - end + 1;
+        at = wide(parent[end]);
     }
     at
 }

@@ -1,7 +1,8 @@
--- `climbed` meets its contract: each turn goes to the parent, which is one less deep.
+-- `climbed` meets its contract: each turn goes along a run, and to the parent of its last node, which is one less deep.
 use native.Mathlib.Omega.{arith}
 use Rattle.scan.specs.Ways.{Climbs}
-use Rattle.scan.proofs.Depths.{Climb, climb-room, climb-falls, climb-again, climb-done}
+use Rattle.scan.proofs.Depths.{Climb, climb-room, climb-falls, climb-again, climb-runs, climb-done}
+use borrow.Author.Needs.{needs}
 use Rattle.scan.proofs.ranges.climbed.Statement.{statement}
 use Rattle.scan.proofs.ranges.climbed.Tie as tie
 
@@ -12,29 +13,41 @@ abbrev μ-loop : tie.MeasureT-loop
 μ-loop parent node at₀ n₀ at n = at
 
 loop-holds : tie.Need-loop-holds Inv-loop μ-loop
-loop-holds c = (c .pre, record { below = c .pre .below; sum = omega arith })
+loop-holds c = (c .before .pre, record { below = c .before .pre .below; sum = omega arith })
 
-mul-at : tie.Need-mul-at Inv-loop μ-loop
-mul-at c = omega (arith, c .before .loop .inv .0 .rises .held, c .before .loop .inv .1 .below, c .before .before .good .0 .1)
+run-end-requires : tie.Need-run-end-requires Inv-loop μ-loop
+run-end-requires c κs = let i = c .before .loop .inv in
+    (record { count = i .0 .count; rises = i .0 .rises; below = i .1 .below }, omega arith)
 
-shared-slice-read-at : tie.Need-shared-slice-read-at Inv-loop μ-loop
-shared-slice-read-at c = omega (arith, c .before .before .loop .inv .0 .rises .held, c .before .before .loop .inv .1 .below)
-
-cast-at : tie.Need-cast-at Inv-loop μ-loop
-cast-at c = omega (arith, c .shared-slice-known .given (c .before .before .loop .at))
+sub-n : tie.Need-sub-n Inv-loop μ-loop
+sub-n c = omega (arith, c .run-end .ensures .high)
 
 add-n : tie.Need-add-n Inv-loop μ-loop
-add-n c =
-    let i = c .before .before .loop .inv in
-    omega (arith, climb-room (i .0 .rises) (i .1) (c .before .loop-test .taken))
+add-n c = search needs
+
+add-n-2 : tie.Need-add-n-2 Inv-loop μ-loop
+add-n-2 c = let i = c .before .before .loop .inv in
+    let r = c .run-end .ensures in
+    omega (arith, climb-room (i .0 .rises) (climb-runs (i .1) r) (λ z. omega (arith, r .bound)))
+
+mul-wide : tie.Need-mul-wide Inv-loop μ-loop
+mul-wide c = search needs
+
+shared-slice-read-wide : tie.Need-shared-slice-read-wide Inv-loop μ-loop
+shared-slice-read-wide c = search needs
+
+wide-requires : tie.Need-wide-requires Inv-loop μ-loop
+wide-requires c κs = search needs
 
 loop-less : tie.Need-loop-less Inv-loop μ-loop
-loop-less c = climb-falls (c .before .before .loop .inv .0 .rises) (c .before .before .loop .inv .1) (c .before .loop-test .taken)
+loop-less c = let i = c .before .before .before .before .loop .inv in
+    let r = c .before .before .run-end .ensures in
+    omega (arith, c .wide .ensures, r .high, climb-falls (i .0 .rises) (climb-runs (i .1) r) (λ z. omega (arith, r .bound)))
 
 loop-again : tie.Need-loop-again Inv-loop μ-loop
-loop-again c =
-    let i = c .before .before .loop .inv in
-    (i .0, climb-again (i .0 .rises) (i .1) (c .before .loop-test .taken))
+loop-again c = let i = c .before .before .before .before .loop .inv in
+    let r = c .before .before .run-end .ensures in
+    (i .0, climb-again (i .0 .rises) (climb-runs (i .1) r) (λ z. omega (arith, r .bound)) _ _ (c .wide .ensures) (omega arith))
 
 returns : tie.Need-returns Inv-loop μ-loop
 returns c = climb-done (c .before .loop .inv .1) (c .loop-test .left)
@@ -46,10 +59,13 @@ climbed-spec =
     Inv-loop
     μ-loop
     loop-holds
-    mul-at
-    shared-slice-read-at
-    cast-at
+    run-end-requires
+    sub-n
     add-n
+    add-n-2
+    mul-wide
+    shared-slice-read-wide
+    wide-requires
     loop-less
     loop-again
     returns)
