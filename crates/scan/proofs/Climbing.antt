@@ -115,8 +115,8 @@ module _ {parent : List ℕ} {count : ℕ} (rises : Rises parent count) {node lo
       let k = left - (node - at) in
       let z : left ≡ k + (node - at) = omega (arith, r .high) in
       let stays : lifted (paths parent []) k at ≡ at =
-          split k 0 (λ q. ap (λ n. lifted (paths parent []) n at) q)
-          (λ q. let o : at ≡ 0 = omega arith in ap (lifted (paths parent []) k) o ∙ lifted-root parent (rises .root) k ∙ sym o) in
+      split k 0 (λ q. ap (λ n. lifted (paths parent []) n at) q)
+      (λ q. let o : at ≡ 0 = omega arith in ap (lifted (paths parent []) k) o ∙ lifted-root parent (rises .root) k ∙ sym o) in
       sym (ap (λ n. lifted (paths parent []) n node) z ∙ r .lift k ∙ stays)
 
   -- And where it goes on behind it.

@@ -1,14 +1,16 @@
 -- The loop over the nodes that lowers the best shifts.
-use Prim.Native.Nat.{ℕ, zero, suc, _+_, _-_, _≤_, max}
+use Prim.Native.Nat.{ℕ, zero, suc, _+_, _-_, _≤_, _<_, max}
 use native.Mathlib.Numerals.{add-one}
 use native.Mathlib.Omega.{arith}
 use mathlib.Core.Path.{_≡_, refl, ap, sym, _∙_}
 use mathlib.Core.Bool.{Bool}
 use mathlib.Core.List.{List, [], _∷_}
 use mathlib.Core.Option.{Option}
+use lib.Bits.{bitOr, or-add-and, and-le-l, and-le-r}
 use lib.ListN.{length, getD, take, drop, length-append, length-drop}
 use lib.Seq.{take-at}
 use Rattle.rules.specs.Lists.{least}
+use Rattle.rules.specs.Laws.Tests.{split}
 use Rattle.rules.specs.Tokens.{byteShift, shiftOf}
 use Rattle.agree.specs.Tests.{nodeTest, byteTest, leastOf}
 use Rattle.agree.specs.Laws.Least.{least-none, least-token}
@@ -16,7 +18,7 @@ use Rattle.trie.specs.Tables.{Tables, over}
 use Rattle.trie.specs.Walks.{ending, depth, words}
 use Rattle.trie.specs.Answers.{tables}
 use Rattle.scan.specs.Ways.{paths}
-use Rattle.scan.specs.Shifts.{lowerBy}
+use Rattle.scan.specs.Shifts.{Bare}
 use Rattle.scan.specs.declared.shift.Best.{Best}
 use Rattle.scan.specs.Laws.Ways.{ending-alike}
 
@@ -31,28 +33,61 @@ module _ (u before : List ℕ) {after : List ℕ} {n : ℕ} (is : after ≡ over
   pub written-length : n ≡ length (take n after)
   written-length = long ∙ ap length (sym written-word)
 
-module _ (p : List ℕ → ℕ → Bool) (parent label token : List ℕ) (v best : ℕ) where
-  pub lower-none : getD token v 0 ≡ 0 → best ≡ lowerBy p (tables parent label token [] []) v best
-  lower-none e = rw e
+-- Nodes without a token.
+pub bare-none : (token : List ℕ) (v : ℕ) → Bare token v v
+bare-none token v = record { order = omega arith; none-here = λ n h l. absurd (omega arith) }
 
-  pub lower-some : (getD token v 0 ≡ 0 → ⊥) → (w : List ℕ) → w ≡ ending (paths parent label) v → (r : ℕ) → r ≡ least (p w) 1 (best - 1)
-      → r ≡ lowerBy p (tables parent label token [] []) v best
-  lower-some d w e r q =
-      q ∙ ap (λ u. least (p u) 1 (best - 1)) (e ∙ ending-alike (paths parent label) (tables parent label token [] []) refl refl v)
-      ∙ go (getD token v 0) d (least (p (ending (tables parent label token [] []) v)) 1 (best - 1))
-    where
-      go : (n : ℕ) → (n ≡ 0 → ⊥) → (b : ℕ) → b ≡ elim n [ zero ↦ best | suc i ↦ b ]
-      go zero d b = absurd (d refl)
-      go (suc i) d b = refl
+pub bare-more : {token : List ℕ} {v w : ℕ} → Bare token v w → getD token w 0 ≡ 0 → Bare token v (w + 1)
+bare-more {token} {v} {w} b e = record {
+  order = omega (arith, b .order);
+  none-here = λ n h l. split n w (λ q. ap (λ m. getD token m 0) q ∙ e) (λ q. b .none-here n h (omega arith));
+}
 
--- One node more.
-least-more : (p : List ℕ → ℕ → Bool) (t : Tables) (v S : ℕ) → 1 ≤ S → lowerBy p t v (leastOf p (words t v) S) ≡ leastOf p (words t (suc v)) S
-least-more p t v S h = go (getD (t .token) v 0)
+before : {P : Type 0} (a b : ℕ) → (a < b → P) → (b ≤ a → P) → P
+before a zero f g = g (omega arith)
+before zero (suc b) f g = f (omega arith)
+before (suc a) (suc b) f g = before a b (λ h. f (omega arith)) (λ h. g (omega arith))
+
+pub bare-joins : {token : List ℕ} {u v w : ℕ} → Bare token u v → Bare token v w → Bare token u w
+bare-joins {token} {u} {v} {w} a b = record {
+  order = omega (arith, a .order, b .order);
+  none-here = λ n h l. before n v (λ k. a .none-here n h k) (λ k. b .none-here n k l);
+}
+
+or-none : (a b : ℕ) → bitOr a b ≡ 0 → (a ≡ 0) × (b ≡ 0)
+or-none a b e = (omega (arith, or-add-and a b, and-le-r a b), omega (arith, or-add-and a b, and-le-l a b))
+
+pub bare-four : (token : List ℕ) (v : ℕ) → bitOr (bitOr (bitOr (getD token v 0) (getD token (v + 1) 0)) (getD token (v + 2) 0)) (getD token (v + 3) 0) ≡ 0
+    → Bare token v (v + 4)
+bare-four token v e =
+    let d = or-none _ (getD token (v + 3) 0) e in
+    let c = or-none _ (getD token (v + 2) 0) (d .0) in
+    let b = or-none (getD token v 0) (getD token (v + 1) 0) (c .0) in
+    let one = bare-more (bare-none token v) (b .0) in
+    let two = bare-more one (b .1) in
+    let x2 : v + 1 + 1 ≡ v + 2 = omega arith in
+    let x3 : v + 2 + 1 ≡ v + 3 = omega arith in
+    let x4 : v + 3 + 1 ≡ v + 4 = omega arith in
+    let two′ : Bare token v (v + 2) = rw (sym x2) two in
+    let three : Bare token v (v + 3) = rw (sym x3) (bare-more two′ (c .1)) in
+    rw (sym x4) (bare-more three (d .1))
+
+-- They add no words.
+pub bare-words : (t : Tables) (v w : ℕ) → Bare (t .token) v w → words t w ≡ words t v
+bare-words t v zero b = let z : v ≡ 0 = omega (arith, b .order) in rw z
+bare-words t v (suc w) b = split v (suc w) (λ e. ap (words t) (sym e))
+    (λ e. let none = b .none-here w (omega (arith, b .order)) (omega arith) in
+    rw (none, words) (bare-words t v w (record { order = omega (arith, b .order); none-here = λ n h l. b .none-here n h (omega arith) })))
+
+-- One token more.
+least-more : (p : List ℕ → ℕ → Bool) (t : Tables) (v S : ℕ) → 1 ≤ S → (getD (t .token) v 0 ≡ 0 → ⊥)
+    → least (p (ending t v)) 1 (leastOf p (words t v) S - 1) ≡ leastOf p (words t (suc v)) S
+least-more p t v S h d = go (getD (t .token) v 0) d
   where
-    go : (n : ℕ) → elim n [ zero ↦ leastOf p (words t v) S | suc i ↦ least (p (ending t v)) 1 (leastOf p (words t v) S - 1) ]
+    go : (n : ℕ) → (n ≡ 0 → ⊥) → least (p (ending t v)) 1 (leastOf p (words t v) S - 1)
         ≡ leastOf p (elim n [ zero ↦ words t v | suc i ↦ ending t v ∷ words t v ]) S
-    go zero = refl
-    go (suc i) = least-token p (words t v) S h (ending t v)
+    go zero d = absurd (d refl)
+    go (suc i) d = least-token p (words t v) S h (ending t v)
 
 -- The best of the tokens among the nodes below v; `word` is the buffer of the last one.
 pub record Lowered (t : Tables) (u : List ℕ) (x : ℕ) (none : Best) (word : List ℕ) (best : Best) (v : ℕ) : Type 0 where
@@ -69,14 +104,35 @@ module _ (t : Tables) (u : List ℕ) (x : ℕ) {none : Best} (near : (1 ≤ none
   }
 
   module _ {word : List ℕ} {best : Best} {v : ℕ} (l : Lowered t u x none word best v) where
-    pub lowered-again : (after : List ℕ) (r : Best) → length after ≡ 1024
-        → r .node ≡ lowerBy (nodeTest u) t v (best .node) → r .byte ≡ lowerBy (byteTest (length u) x) t v (best .byte)
+    pub lowered-bare : (w : ℕ) → Bare (t .token) v w → Lowered t u x none word best w
+    lowered-bare w b =
+        let same = sym (bare-words t v w b) in
+        record {
+          size = l .size;
+          node = l .node ∙ ap (λ ws. leastOf (nodeTest u) ws (none .node)) same;
+          byte = l .byte ∙ ap (λ ws. leastOf (byteTest (length u) x) ws (none .byte)) same;
+        }
+
+    pub lowered-done : (count : ℕ) → v ≡ count
+        → (best .node ≡ leastOf (nodeTest u) (words t count) (none .node)) × (best .byte ≡ leastOf (byteTest (length u) x) (words t count) (none .byte))
+    lowered-done count e = (
+      l .node ∙ ap (λ v. leastOf (nodeTest u) (words t v) (none .node)) e,
+      l .byte ∙ ap (λ v. leastOf (byteTest (length u) x) (words t v) (none .byte)) e,
+    )
+
+    pub lowered-again : (getD (t .token) v 0 ≡ 0 → ⊥) → (after : List ℕ) (r : Best) → length after ≡ 1024
+        → (let w = ending (paths (t .parent) (t .label)) v in
+        (r .node ≡ least (nodeTest u w) 1 (best .node - 1)) × (r .byte ≡ least (byteTest (length u) x w) 1 (best .byte - 1)))
         → Lowered t u x none after r (v + 1)
-    lowered-again after r h e f = rw (add-one v) (record {
-      size = h;
-      node = e ∙ ap (lowerBy (nodeTest u) t v) (l .node) ∙ least-more (nodeTest u) t v (none .node) (near .0);
-      byte = f ∙ ap (lowerBy (byteTest (length u) x) t v) (l .byte) ∙ least-more (byteTest (length u) x) t v (none .byte) (near .1);
-    })
+    lowered-again d after r h e =
+        let same = ending-alike (paths (t .parent) (t .label)) t refl refl v in
+        rw (add-one v) (record {
+          size = h;
+          node = e .0 ∙ ap (λ w. least (nodeTest u w) 1 (best .node - 1)) same ∙ ap (λ b. least (nodeTest u (ending t v)) 1 (b - 1)) (l .node)
+              ∙ least-more (nodeTest u) t v (none .node) (near .0) d;
+          byte = e .1 ∙ ap (λ w. least (byteTest (length u) x w) 1 (best .byte - 1)) same
+              ∙ ap (λ b. least (byteTest (length u) x (ending t v)) 1 (b - 1)) (l .byte) ∙ least-more (byteTest (length u) x) t v (none .byte) (near .1) d;
+        })
 
 -- Rule 5: the greater of the two shifts of the word that was spelled.
 module _ (parent label token : List ℕ) (count S node : ℕ) where

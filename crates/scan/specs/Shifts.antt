@@ -1,12 +1,9 @@
--- Rule 5 node by node, as the code searches it: the closing byte, and the best so far.
-use Prim.Native.Nat.{ℕ, zero, suc, _-_}
-use mathlib.Core.Bool.{Bool}
+-- Rule 5 node by node, as the code searches it: the closing byte, and nodes without a token.
+use Prim.Native.Nat.{ℕ, _≤_, _<_}
+use mathlib.Core.Path.{_≡_}
 use mathlib.Core.List.{List}
 use mathlib.Core.Option.{Option, some, none}
 use lib.ListN.{getD}
-use Rattle.rules.specs.Lists.{least}
-use Rattle.trie.specs.Tables.{Tables}
-use Rattle.trie.specs.Walks.{ending}
 use Rattle.scan.specs.declared.shift.Closing.{Closing}
 use Rattle.scan.specs.declared.shift.Closing.the-variants.{Byte, Nothing}
 
@@ -15,6 +12,7 @@ abbrev pub closingOf : Closing → Option ℕ
 closingOf (Byte x) = some x
 closingOf Nothing = none
 
--- The best so far with node v's token too, if it carries one.
-abbrev pub lowerBy : (List ℕ → ℕ → Bool) → Tables → ℕ → ℕ → ℕ
-lowerBy p t v best = elim (getD (t .token) v 0) [ zero ↦ best | suc i ↦ least (p (ending t v)) 1 (best - 1) ]
+-- The nodes from v up to w, w not included, carry no token.
+pub record Bare (token : List ℕ) (v w : ℕ) : Type 0 where
+  pub order : v ≤ w
+  pub none-here : (n : ℕ) → v ≤ n → n < w → getD token n 0 ≡ 0

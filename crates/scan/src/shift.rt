@@ -1,15 +1,17 @@
 // Rule 5 over any tables that are a tree: the node shift and the byte shift, token by token, and the greater of the two.
 
-ghost use Prim.Native.Nat.{_≤_, _<_, max};
+ghost use Prim.Native.Nat.{_+_, _-_, _≤_, _<_, max};
 ghost use mathlib.Core.Path.{_≡_};
+ghost use mathlib.Core.Bool.{true};
 ghost use mathlib.Core.List.{[]};
-ghost use lib.ListN.{length};
+ghost use lib.ListN.{length, getD};
+ghost use Rattle.rules.specs.Lists.{least};
 ghost use Rattle.rules.specs.Tokens.{shiftOf};
 ghost use Rattle.agree.specs.Tests.{nodeTest, byteTest, leastOf};
 ghost use Rattle.trie.specs.Walks.{ending, words};
 ghost use Rattle.trie.specs.Answers.{tables};
-ghost use Rattle.scan.specs.Ways.{Readable, Spells};
-ghost use Rattle.scan.specs.Shifts.{closingOf, lowerBy};
+ghost use Rattle.scan.specs.Ways.{paths, Readable, Spells};
+ghost use Rattle.scan.specs.Shifts.{closingOf, Bare};
 use crate::spell;
 
 // The byte that ended a round, if there was one.
@@ -24,11 +26,48 @@ pub struct Best {
     pub byte: usize,
 }
 
-// The least shifts with node v's token too, if it carries one; `word` is for its bytes.
+// Whether four nodes from v on carry no token.
+fn bare_four(token: &[u16], v: usize) -> bool
+    requires { ⌜ v + 4 ≤ length (now token) ⌝ }
+    ensures { λ r. ⌜ (r ≡ true → Bare (now (token .entry)) v (v + 4)) ⌝ }
+{
+    token[v] | token[v + 1] | token[v + 2] | token[v + 3] == 0
+}
+
+// A node from v on, up to which none carries a token, four at a time: one comparison does for four.
+fn skip(token: &[u16], v: usize, count: usize) -> usize
+    requires { ⌜ (v ≤ count) × (count ≤ length (now token)) ⌝ }
+    ensures { λ r. ⌜ Bare (now (token .entry)) v r × (r ≤ count) ⌝ }
+{
+    let mut at = v;
+    while 4 <= count - at {
+        if !bare_four(token, at) {
+            return at;
+        }
+        at += 4;
+    }
+    at
+}
+
+// The next node from v on that carries a token, or the count.
+fn carrier(token: &[u16], v: usize, count: usize) -> usize
+    requires { ⌜ (v ≤ count) × (count ≤ length (now token)) ⌝ }
+    ensures { λ r. ⌜ Bare (now (token .entry)) v r × (r ≤ count) × (r < count → getD (now (token .entry)) r 0 ≡ 0 → ⊥) ⌝ }
+{
+    let mut at = skip(token, v, count);
+    while at < count {
+        if token[at] != 0 {
+            return at;
+        }
+        at += 1;
+    }
+    at
+}
+
+// The least shifts with node v's token too; `word` is for its bytes.
 fn lower(
     parent: &[u16],
     label: &[u8],
-    token: &[u16],
     v: usize,
     word: &mut [u8; 1024],
     matched: &[u8],
@@ -36,16 +75,12 @@ fn lower(
     best: Best,
 ) -> Best
     requires way { ⌜ Spells (now parent) (now label) v ⌝ }
-    requires token { ⌜ v < length (now token) ⌝ }
     requires buffer { ⌜ length (now word) ≡ 1024 ⌝ }
     ensures word { λ r. ⌜ length (now (word .exit)) ≡ 1024 ⌝ }
-    ensures least { λ r. let t = tables (now (parent .entry)) (now (label .entry)) (now (token .entry)) [] [] in
+    ensures least { λ r. let w = ending (paths (now (parent .entry)) (now (label .entry))) v in
         let u = now (matched .entry) in
-        ⌜ (r .node ≡ lowerBy (nodeTest u) t v (best .node)) × (r .byte ≡ lowerBy (byteTest (length u) x) t v (best .byte)) ⌝ }
+        ⌜ (r .node ≡ least (nodeTest u w) 1 (best .node - 1)) × (r .byte ≡ least (byteTest (length u) x w) 1 (best .byte - 1)) ⌝ }
 {
-    if token[v] == 0 {
-        return best;
-    }
     let n = spell::spell(parent, label, v, word);
     let bytes = &word[..];
     let body = &bytes[..n];
@@ -75,8 +110,12 @@ fn all_least(
     let mut best = none;
     let mut v = 0;
     while v < count {
-        best = lower(parent, label, token, v, &mut word, matched, x, best);
-        v += 1;
+        let at = carrier(token, v, count);
+        if at == count {
+            return best;
+        }
+        best = lower(parent, label, at, &mut word, matched, x, best);
+        v = at + 1;
     }
     best
 }

@@ -1,14 +1,11 @@
 -- `all_least` meets its contract: the best so far are those of the nodes passed.
 use Prim.Native.Nat.{_-_, _≤_}
 use native.Mathlib.Omega.{arith}
-use mathlib.Core.Path.{_≡_, refl, ap, _∙_}
+use mathlib.Core.Path.{refl}
 use mathlib.Core.List.{[]}
-use lib.ListN.{length}
-use Rattle.agree.specs.Tests.{nodeTest, byteTest, leastOf}
-use Rattle.trie.specs.Walks.{words}
 use Rattle.trie.specs.Answers.{tables}
 use Rattle.scan.specs.Laws.Ways.{spells}
-use Rattle.scan.proofs.Lowering.{Lowered, lowered-begins, lowered-again}
+use Rattle.scan.proofs.Lowering.{Lowered, lowered-begins, lowered-bare, lowered-again, lowered-done}
 use borrow.Author.Needs.{needs}
 use Rattle.scan.proofs.shift.all_least.Statement.{statement}
 use Rattle.scan.proofs.shift.all_least.Tie as tie
@@ -24,36 +21,53 @@ loop-holds : tie.Need-loop-holds Inv-loop μ-loop
 loop-holds c = let s = c .before .before .before .before in
     (omega arith, lowered-begins _ (s .args .matched .now) (s .args .x) (s .pre .1) _ refl)
 
-lower-requires : tie.Need-lower-requires Inv-loop μ-loop
-lower-requires c κs = let s = c .before .before .before .before .before .before .before in
+carrier-requires : tie.Need-carrier-requires Inv-loop μ-loop
+carrier-requires c κs = let s = c .before .before .before .before .before .before in
+    (c .before .loop .inv .0, s .pre .0 .tokens)
+
+returns : tie.Need-returns Inv-loop μ-loop
+returns c = let s = c .before .before .before .before .before .before .before .before in
     let a = s .args in
-    let l = c .before .before .loop in (
-      spells (a .parent .now) (a .label .now) (a .token .now) (a .count) (l .v) (s .pre .0) (c .before .loop-test .taken),
-      (omega (arith, s .pre .0 .tokens), l .inv .1 .size),
+    let t = tables (a .parent .now) (a .label .now) (a .token .now) [] [] in
+    let found = c .before .carrier in
+    lowered-done t (a .matched .now) (a .x) (s .pre .1)
+    (lowered-bare t (a .matched .now) (a .x) (s .pre .1) (c .before .before .before .loop .inv .1) (found .result) (found .ensures .0))
+    (a .count) (c .if1 .taken)
+
+lower-requires : tie.Need-lower-requires Inv-loop μ-loop
+lower-requires c κs = let s = c .before .before .before .before .before .before .before .before .before in
+    let a = s .args in
+    let found = c .before .before .carrier in (
+      spells (a .parent .now) (a .label .now) (a .token .now) (a .count) (found .result) (s .pre .0) (omega (arith, found .ensures .1, c .before .if1 .left)),
+      c .before .before .before .before .loop .inv .1 .size,
     )
 
 add-v : tie.Need-add-v Inv-loop μ-loop
 add-v c = search needs
 
 loop-less : tie.Need-loop-less Inv-loop μ-loop
-loop-less c = search needs
+loop-less c = let found = c .before .before .before .carrier in
+    omega (arith, found .ensures .0 .order, found .ensures .1, c .before .before .if1 .left)
 
 loop-again : tie.Need-loop-again Inv-loop μ-loop
-loop-again c = let s = c .before .before .before .before .before .before .before .before in
+loop-again c = let s = c .before .before .before .before .before .before .before .before .before .before in
     let a = s .args in
-    let e = c .lower .ensures in
-    (omega arith, lowered-again _ (a .matched .now) (a .x) (s .pre .1) (c .before .before .before .loop .inv .1) _ (c .lower .result) (e .0) (e .1 .0) (e .1 .1))
-
-returns : tie.Need-returns Inv-loop μ-loop
-returns c = let a = c .before .before .before .before .before .before .args in
-    let l = c .before .loop in
-    let all : l .v ≡ a .count = omega arith in
-    let t = tables (a .parent .now) (a .label .now) (a .token .now) [] [] in (
-      l .inv .1 .node ∙ ap (λ v. leastOf (nodeTest (a .matched .now)) (words t v) (a .none .node)) all,
-      l .inv .1 .byte ∙ ap (λ v. leastOf (byteTest (length (a .matched .now)) (a .x)) (words t v) (a .none .byte)) all,
+    let t = tables (a .parent .now) (a .label .now) (a .token .now) [] [] in
+    let found = c .before .before .before .carrier in
+    let e = c .lower .ensures in (
+      omega (arith, found .ensures .1, c .before .before .if1 .left),
+      lowered-again t (a .matched .now) (a .x) (s .pre .1)
+          (lowered-bare t (a .matched .now) (a .x) (s .pre .1) (c .before .before .before .before .before .loop .inv .1) (found .result) (found .ensures .0))
+          (found .ensures .2 (omega (arith, found .ensures .1, c .before .before .if1 .left))) _ (c .lower .result) (e .0) (e .1),
     )
+
+returns-2 : tie.Need-returns-2 Inv-loop μ-loop
+returns-2 c = let s = c .before .before .before .before .before .before in
+    let a = s .args in
+    lowered-done (tables (a .parent .now) (a .label .now) (a .token .now) [] []) (a .matched .now) (a .x) (s .pre .1) (c .before .loop .inv .1)
+    (a .count) (omega arith)
 
 pub all-least-spec : {M : Type 1} → statement M
 all-least-spec =
     tie.close
-    (tie.spec Inv-loop μ-loop loop-holds lower-requires add-v loop-less loop-again returns)
+    (tie.spec Inv-loop μ-loop loop-holds carrier-requires returns lower-requires add-v loop-less loop-again returns-2)

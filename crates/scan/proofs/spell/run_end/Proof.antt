@@ -35,9 +35,9 @@ loop-less c = search needs
 
 loop-again : tie.Need-loop-again Inv-loop μ-loop
 loop-again c = let l = c .before .before .before .before .loop in (
-      l .inv .0,
-      run-climbs (l .inv .0 .rises) (l .inv .1) (l .inv .0 .below) (c .before .before .before .loop-test .taken) (sym (c .before .wide .ensures) ∙ c .if1 .left),
-    )
+  l .inv .0,
+  run-climbs (l .inv .0 .rises) (l .inv .1) (l .inv .0 .below) (c .before .before .before .loop-test .taken) (sym (c .before .wide .ensures) ∙ c .if1 .left),
+)
 
 returns-2 : tie.Need-returns-2 Inv-loop μ-loop
 returns-2 c = c .before .loop .inv .1
