@@ -3,15 +3,15 @@ use Prim.Native.Nat.{ℕ, zero, suc, _+_, _-_, _≤_, _<_, max}
 use native.Mathlib.Numerals.{add-one}
 use native.Mathlib.Omega.{arith}
 use mathlib.Core.Path.{_≡_, refl, ap, sym, _∙_}
-use mathlib.Core.Bool.{Bool}
+use mathlib.Core.Bool.{Bool, true, false, _&&_}
 use mathlib.Core.List.{List, [], _∷_}
 use mathlib.Core.Option.{Option}
 use lib.Bits.{bitOr, or-add-and, and-le-l, and-le-r}
 use lib.ListN.{length, getD, take, drop, length-append, length-drop}
 use lib.Seq.{take-at}
-use Rattle.rules.specs.Lists.{least}
-use Rattle.rules.specs.Laws.Tests.{split}
-use Rattle.rules.specs.Tokens.{byteShift, shiftOf}
+use Rattle.rules.specs.Lists.{every, least}
+use Rattle.rules.specs.Laws.Tests.{split, least-ge, least-upto}
+use Rattle.rules.specs.Tokens.{fromRight, agrees, byteShift, shiftOf}
 use Rattle.agree.specs.Tests.{nodeTest, byteTest, leastOf}
 use Rattle.agree.specs.Laws.Least.{least-none, least-token}
 use Rattle.trie.specs.Tables.{Tables, over}
@@ -78,6 +78,37 @@ bare-words t v zero b = let z : v ≡ 0 = omega (arith, b .order) in rw z
 bare-words t v (suc w) b = split v (suc w) (λ e. ap (words t) (sym e))
     (λ e. let none = b .none-here w (omega (arith, b .order)) (omega arith) in
     rw (none, words) (bare-words t v w (record { order = omega (arith, b .order); none-here = λ n h l. b .none-here n h (omega arith) })))
+
+-- A search whose test needs another that nothing passes.
+least-fails : (p q : ℕ → Bool) → ((s : ℕ) → p s ≡ false → q s ≡ false) → (from fuel : ℕ) → from + fuel ≤ least p from fuel
+    → least q from fuel ≡ from + fuel
+least-fails p q h from zero e = omega arith
+least-fails p q h from (suc fuel) e = go (p from) refl e (least-fails p q h (from + 1) fuel)
+  where
+    go : (b : Bool) → p from ≡ b → from + suc fuel ≤ elim b [ true ↦ from | false ↦ least p (from + 1) fuel ]
+        → (from + 1 + fuel ≤ least p (from + 1) fuel → least q (from + 1) fuel ≡ from + 1 + fuel) → least q from (suc fuel) ≡ from + suc fuel
+    go true a l k = absurd (omega arith)
+    go false a l k = rw (h from a, least) (omega (arith, k (omega arith)))
+
+every-fails : (n : ℕ) (p : ℕ → Bool) → p 0 ≡ false → 0 < n → every n p ≡ false
+every-fails zero p e h = absurd (omega arith)
+every-fails (suc zero) p e h = rw e
+every-fails (suc (suc n)) p e h = go (p (suc n)) (every-fails (suc n) p e (omega arith))
+  where
+    go : (a : Bool) {b : Bool} → b ≡ false → (a && b) ≡ false
+    go true e = e
+    go false e = refl
+
+-- No shift agrees with the last matched byte.
+pub node-fails : (u w : List ℕ) (best s : ℕ) → (length u ≡ 0 → ⊥) → s ≡ least (byteTest 0 (getD u (length u - 1) 0) w) 1 (best - 1) → best ≤ s
+    → s ≡ least (nodeTest u w) 1 (best - 1)
+node-fails u w best s some e h =
+    let p = byteTest 0 (getD u (length u - 1) 0) w in
+    let z : length u - 1 ≡ length u - 1 - 0 = omega arith in
+    let fails : (m : ℕ) → p m ≡ false → nodeTest u w m ≡ false =
+    λ m a. every-fails (length u) (λ k. agrees w m k (fromRight u k)) (sym (ap (λ i. agrees w m 0 (getD u i 0)) z) ∙ a) (omega arith) in
+    let l : 1 + (best - 1) ≤ least p 1 (best - 1) = omega (arith, least-ge p 1 (best - 1)) in
+    omega (arith, least-fails p (nodeTest u w) fails 1 (best - 1) l, least-upto p 1 (best - 1))
 
 -- One token more.
 least-more : (p : List ℕ → ℕ → Bool) (t : Tables) (v S : ℕ) → 1 ≤ S → (getD (t .token) v 0 ≡ 0 → ⊥)

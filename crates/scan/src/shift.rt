@@ -64,6 +64,21 @@ fn carrier(token: &[u16], v: usize, count: usize) -> usize
     at
 }
 
+// The smallest s from 1 below `best` for which the token agrees with the matched bytes, or `best`. A token that agrees with the last
+// of them for no s has none, which is found sooner.
+fn node_lower(body: &[u8], matched: &[u8], best: usize) -> usize
+    ensures { λ r. ⌜ r ≡ least (nodeTest (now (matched .entry)) (now (body .entry))) 1 (best - 1) ⌝ }
+{
+    let d = matched.len();
+    if d != 0 {
+        let s = agree::byte_least(body, 0, matched[d - 1], best);
+        if best <= s {
+            return s;
+        }
+    }
+    agree::node_least(body, matched, best)
+}
+
 // The least shifts with node v's token too; `word` is for its bytes.
 fn lower(
     parent: &[u16],
@@ -85,7 +100,7 @@ fn lower(
     let bytes = &word[..];
     let body = &bytes[..n];
     Best {
-        node: agree::node_least(body, matched, best.node),
+        node: node_lower(body, matched, best.node),
         byte: agree::byte_least(body, matched.len(), x, best.byte),
     }
 }

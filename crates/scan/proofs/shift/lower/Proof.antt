@@ -20,8 +20,8 @@ slice-aggregate-body c = let s = c .before .before .before .before .before .befo
     let w = c .before .before .before .spell in
     written-length (ending (paths (a .parent .now) (a .label .now)) (a .v)) (a .word .now) (w .ensures .1) (w .ensures .0)
 
-node-least-requires : tie.Need-node-least-requires
-node-least-requires c κs = search needs
+node-lower-requires : tie.Need-node-lower-requires
+node-lower-requires c κs = search needs
 
 byte-least-requires : tie.Need-byte-least-requires
 byte-least-requires c κs = search needs
@@ -34,11 +34,11 @@ returns c = let s = c .before .before .before .before .before .before .before .b
     let word = written-word u (a .word .now) (w .ensures .1) (w .ensures .0) in (
       written-size u (a .word .now) (w .ensures .1) (w .ensures .0) (s .pre .1) (s .pre .0 .deep),
       (
-        c .before .node-least .ensures ∙ ap (λ w. least (nodeTest (a .matched .now) w) 1 (a .best .node - 1)) word,
+        c .before .node-lower .ensures ∙ ap (λ w. least (nodeTest (a .matched .now) w) 1 (a .best .node - 1)) word,
         c .byte-least .ensures ∙ ap (λ w. least (byteTest (length (a .matched .now)) (a .x) w) 1 (a .best .byte - 1)) word,
       ),
     )
 
 pub lower-spec : {M : Type 1} → statement M
 lower-spec =
-    tie.close (tie.spec spell-requires slice-aggregate-body node-least-requires byte-least-requires returns)
+    tie.close (tie.spec spell-requires slice-aggregate-body node-lower-requires byte-least-requires returns)
