@@ -28,8 +28,8 @@ pub struct Stretch {
     pub node: usize,
 }
 
-// N, S, the number of nodes, the present round's boundary, node and depth, whether a byte is due, the remembered stretches, and how
-// many bytes were supplied so far.
+// N, S, the number of nodes, the present round's boundary, node and depth, the remembered stretches, how many bytes were supplied so
+// far, and whether a byte is due.
 pub struct Scan {
     pub image: usize,
     pub shortest: usize,
@@ -37,9 +37,9 @@ pub struct Scan {
     pub boundary: usize,
     pub node: usize,
     pub depth: usize,
-    pub due: bool,
     pub stretches: [Stretch; 5],
     pub supplied: usize,
+    pub due: bool,
 }
 
 // Whether starting went well, or refusal 8 with its value.

@@ -24,7 +24,7 @@ abbrev μ-loop : tie.MeasureT-loop
 
 loop-holds : tie.Need-loop-holds Inv-loop μ-loop
 loop-holds c = record {
-  long = simp length-map at (c .before .good .1 .0 .1 .1 .1 .1 .1 .1 .1 .1 .1 .0 .1 .0 .1);
+  long = simp length-map at (c .before .good .1 .0 .1 .1 .1 .1 .1 .1 .1 .1 .0 .1 .0 .1);
   upto = omega arith;
   rest = refl;
 }
