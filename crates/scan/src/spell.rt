@@ -22,7 +22,7 @@ pub struct Spot {
 }
 
 // Writes on from index n, up to the first node whose parent is not the node before it. By counting, since a turn that went where a
-// parent says would wait for it to be read.
+// parent says would wait for it to be read; two nodes a turn.
 fn spell_run(parent: &[u16], label: &[u8], node: usize, n: usize, into: &mut [u8; 1024]) -> Spot
     requires way { ⌜ Spells (now parent) (now label) node × (0 < node) ⌝ }
     requires room { ⌜ n + depth (paths (now parent) (now label)) node ≤ 1024 ⌝ }
@@ -30,14 +30,20 @@ fn spell_run(parent: &[u16], label: &[u8], node: usize, n: usize, into: &mut [u8
 {
     let mut at = node;
     let mut to = n;
-    while 1 < at {
+    while 2 < at {
         let below = at - 1;
         if wide(parent[at]) != below {
             return Spot { at, n: to };
         }
         into[to] = label[at];
-        to += 1;
-        at = below;
+        let on = to + 1;
+        let under = below - 1;
+        if wide(parent[below]) != under {
+            return Spot { at: below, n: on };
+        }
+        into[on] = label[below];
+        to = on + 1;
+        at = under;
     }
     Spot { at, n: to }
 }

@@ -1,4 +1,4 @@
--- `spell_run` meets its contract: each turn writes the label of the node it stands at, and goes to the node before, its parent.
+-- `spell_run` meets its contract: each turn writes the labels of two nodes, each the parent of the one after it.
 use mathlib.Core.Path.{refl, sym, _∙_}
 use native.Mathlib.Omega.{arith}
 use Rattle.scan.specs.Ways.{Spells, Along}
@@ -40,24 +40,63 @@ element-write-into c = let l = c .before .before .before .before .before .loop i
     let s = c .before .before .before .before .before .before .before .before in
     omega (arith, s .pre .1, run-room (l .inv .0 .rises) (s .args .label .now) (l .inv .1) (l .inv .0 .below))
 
-add-to : tie.Need-add-to Inv-loop μ-loop
-add-to c = let l = c .before .before .before .before .before .loop in
+add-on : tie.Need-add-on Inv-loop μ-loop
+add-on c = let l = c .before .before .before .before .before .loop in
     let s = c .before .before .before .before .before .before .before .before in
     omega (arith, s .pre .1, run-room (l .inv .0 .rises) (s .args .label .now) (l .inv .1) (l .inv .0 .below))
+
+sub-under : tie.Need-sub-under Inv-loop μ-loop
+sub-under c = search needs
+
+mul-wide-2 : tie.Need-mul-wide-2 Inv-loop μ-loop
+mul-wide-2 c = search needs
+
+shared-slice-read-wide-2 : tie.Need-shared-slice-read-wide-2 Inv-loop μ-loop
+shared-slice-read-wide-2 c = search needs
+
+wide-requires-2 : tie.Need-wide-requires-2 Inv-loop μ-loop
+wide-requires-2 c κs = search needs
+
+returns-2 : tie.Need-returns-2 Inv-loop μ-loop
+returns-2 c = let l = c .before .before .before .before .before .before .before .before .loop in
+    let i = l .inv in
+    let s = c .before .before .before .before .before .before .before .before .before .before .before in
+    let label = s .args .label .now in
+    let more = run-again (i .0 .rises) label (i .1) (i .0 .below) (omega arith) (sym (c .before .before .before .before .before .wide .ensures) ∙ c .before .before .before .before .if1 .left) in
+    more
+
+shared-slice-read-into-2 : tie.Need-shared-slice-read-into-2 Inv-loop μ-loop
+shared-slice-read-into-2 c = search needs
+
+element-write-into-2 : tie.Need-element-write-into-2 Inv-loop μ-loop
+element-write-into-2 c = let l = c .before .before .before .before .before .before .before .before .before .loop in
+    let i = l .inv in
+    let s = c .before .before .before .before .before .before .before .before .before .before .before .before in
+    let label = s .args .label .now in
+    let more = run-again (i .0 .rises) label (i .1) (i .0 .below) (omega arith) (sym (c .before .before .before .before .before .before .wide .ensures) ∙ c .before .before .before .before .before .if1 .left) in
+    omega (arith, s .pre .1, run-room (i .0 .rises) label more (i .0 .below))
+
+add-to : tie.Need-add-to Inv-loop μ-loop
+add-to c = let l = c .before .before .before .before .before .before .before .before .before .loop in
+    let i = l .inv in
+    let s = c .before .before .before .before .before .before .before .before .before .before .before .before in
+    let label = s .args .label .now in
+    let more = run-again (i .0 .rises) label (i .1) (i .0 .below) (omega arith) (sym (c .before .before .before .before .before .before .wide .ensures) ∙ c .before .before .before .before .before .if1 .left) in
+    omega (arith, s .pre .1, run-room (i .0 .rises) label more (i .0 .below))
 
 loop-less : tie.Need-loop-less Inv-loop μ-loop
 loop-less c = search needs
 
 loop-again : tie.Need-loop-again Inv-loop μ-loop
-loop-again c = let l = c .before .before .before .before .before .loop in
-    let label = c .before .before .before .before .before .before .before .before .args .label .now in (
-      l .inv .0,
-      run-again (l .inv .0 .rises) label (l .inv .1) (l .inv .0 .below) (c .before .before .before .before .loop-test .taken)
-          (sym (c .before .before .wide .ensures) ∙ c .before .if1 .left),
-    )
+loop-again c = let l = c .before .before .before .before .before .before .before .before .before .loop in
+    let i = l .inv in
+    let s = c .before .before .before .before .before .before .before .before .before .before .before .before in
+    let label = s .args .label .now in
+    let more = run-again (i .0 .rises) label (i .1) (i .0 .below) (omega arith) (sym (c .before .before .before .before .before .before .wide .ensures) ∙ c .before .before .before .before .before .if1 .left) in
+    (i .0, run-again (i .0 .rises) label more (i .0 .below) (omega arith) (sym (c .before .before .wide2 .ensures) ∙ c .before .if2 .left))
 
-returns-2 : tie.Need-returns-2 Inv-loop μ-loop
-returns-2 c = c .before .loop .inv .1
+returns-3 : tie.Need-returns-3 Inv-loop μ-loop
+returns-3 c = c .before .loop .inv .1
 
 pub spell-run-spec : {M : Type 1} → statement M
 spell-run-spec =
@@ -73,7 +112,15 @@ spell-run-spec =
     returns
     shared-slice-read-into
     element-write-into
+    add-on
+    sub-under
+    mul-wide-2
+    shared-slice-read-wide-2
+    wide-requires-2
+    returns-2
+    shared-slice-read-into-2
+    element-write-into-2
     add-to
     loop-less
     loop-again
-    returns-2)
+    returns-3)
