@@ -14,29 +14,28 @@ use Rattle.scan.specs.declared.stretches.Recalled.{Recalled}
 use Rattle.scan.specs.declared.stretches.Recalled.the-variants.{Byte, Nothing}
 use Rattle.scan.specs.declared.steps.Found.the-variants.{On, Hit}
 use Rattle.scan.specs.declared.steps.Taken.{Taken}
-use Rattle.scan.specs.declared.steps.Move.{Move}
-use Rattle.scan.specs.declared.steps.Move.the-variants.{Finished, Wants, On as Goes, Hit as Found}
-use Rattle.scan.specs.declared.steps.Advanced.{Advanced}
+use Rattle.scan.specs.declared.steps.Move.the-variants.{Finished, Wants, End, Take}
 use Rattle.scan.specs.State.{configOf, treeOf, used}
 use Rattle.scan.specs.Calls.{Hit as Heard, noHit, hitOf, hitIn, moved}
 use Rattle.scan.specs.Memory.{recalledOf, recallBy}
-use Rattle.scan.specs.Steps.{foundOf, takenBy, moveOf, advancedBy, lookedIn, advancedIn}
+use Rattle.scan.specs.Steps.{foundOf, takenBy, Chosen, Moved, Advanced, over, waits, on, hits, moveOf, advancedBy, advancedIn}
 use Rattle.scan.specs.Laws.Memory.{recall-by}
 
-move-on : (h : Heard) → foundOf h ≡ On → Goes ≡ moveOf h
+move-on : (h : Heard) → foundOf h ≡ On → on ≡ moveOf h
 move-on noHit e = cc
 move-on (hitOf x i) e = cc
 
-move-hit : (h : Heard) (x i : ℕ) → foundOf h ≡ Hit x i → Found x i ≡ moveOf h
+move-hit : (h : Heard) (x i : ℕ) → foundOf h ≡ Hit x i → hits x i ≡ moveOf h
 move-hit noHit x i e = cc
 move-hit (hitOf y j) x i e = cc
 
-abbrev at : Scan → Move → Advanced
-at s m = record { state = s; step = m }
+abbrev pub to : Scan → Moved → Advanced
+to s m = record { state = s; step = m }
 
 module _ (t : Tables) (s : Scan) where
-  pub over-is : s .image < s .boundary → record { state = s; step = Finished } ≡ advancedIn t s
-  over-is h = let e : next (treeOf t s) (s .image) (configOf s) ≡ finished = cc (lt-ltb (s .image) (s .boundary) h) in sym (ap (advancedBy s) e)
+  -- What is chosen.
+  pub over-is : s .image < s .boundary → Chosen t s Finished
+  over-is h = cc (lt-ltb (s .image) (s .boundary) h)
 
   -- Rule 2: whether the round ends with no closing byte.
   pub leaf-stops : getD (t .first) (s .node) 0 ≡ 0 → stops (treeOf t s) (configOf s) ≡ true
@@ -49,34 +48,41 @@ module _ (t : Tables) (s : Scan) where
   not-stops h k = rw (ne-eqb (getD (t .first) (s .node) 0) 0 h, k)
 
   module _ (i : s .boundary ≤ s .image) where
-    pub ends-is : stops (treeOf t s) (configOf s) ≡ true
-        → (r : Scan) → r ≡ moved s (endRound (treeOf t s) (configOf s) none .config) (s .due) → record { state = r; step = Goes } ≡ advancedIn t s
-    ends-is h r q =
-        let e : next (treeOf t s) (s .image) (configOf s) ≡ goes (endRound (treeOf t s) (configOf s) none) = cc (le-ltb (s .image) (s .boundary) i, h) in
-        ap (λ r. at r Goes) q ∙ sym (ap (advancedBy s) e)
+    pub ends-is : stops (treeOf t s) (configOf s) ≡ true → Chosen t s End
+    ends-is h = cc (le-ltb (s .image) (s .boundary) i, h)
 
-    pub looks-is : stops (treeOf t s) (configOf s) ≡ false → (r : Advanced) → r ≡ lookedIn t s → r ≡ advancedIn t s
-    looks-is n r q =
-        let c = configOf s in
-        let e : next (treeOf t s) (s .image) c ≡ look (treeOf t s) c (recall (treeOf t s) (c .stretches) (place c)) = cc (le-ltb (s .image) (s .boundary) i, n) in
-        q ∙ sym (ap (advancedBy s) e)
+    module _ (n : stops (treeOf t s) (configOf s) ≡ false) (k : Recalled)
+        (is : recalledOf k ≡ recallBy (t .parent) (t .label) (used (s .stretches)) (place (configOf s))) where
+      looks : (j : Recalled) → k ≡ j → next (treeOf t s) (s .image) (configOf s) ≡ look (treeOf t s) (configOf s) (recalledOf j)
+      looks j e =
+          let c = configOf s in
+          let by : recall (treeOf t s) (c .stretches) (place c) ≡ recalledOf j =
+          sym (recall-by t (s .count) (s .shortest) (used (s .stretches)) (place c)) ∙ sym is ∙ ap recalledOf e in
+          let to-look : next (treeOf t s) (s .image) c ≡ look (treeOf t s) c (recall (treeOf t s) (c .stretches) (place c)) = cc (le-ltb (s .image) (s .boundary) i, n) in
+          to-look ∙ ap (look (treeOf t s) c) by
 
-  module _ (k : Recalled) (is : recalledOf k ≡ recallBy (t .parent) (t .label) (used (s .stretches)) (place (configOf s))) where
-    by : (j : Recalled) → k ≡ j → advancedBy s (look (treeOf t s) (configOf s) (recalledOf j)) ≡ lookedIn t s
-    by j e =
-        ap (λ o. advancedBy s (look (treeOf t s) (configOf s) o))
-        (sym (ap recalledOf e) ∙ is ∙ recall-by t (s .count) (s .shortest) (used (s .stretches)) (place (configOf s)))
+      pub wants-is : k ≡ Nothing → Chosen t s (Wants (s .boundary - 1 - s .depth))
+      wants-is e = looks Nothing e
 
-    pub wants-is : k ≡ Nothing → record { state = s; step = Wants (s .boundary - 1 - s .depth) } ≡ lookedIn t s
-    wants-is e = by Nothing e
+      pub takes-is : (x : ℕ) → k ≡ Byte x → Chosen t s (Take x)
+      takes-is x e = looks (Byte x) e
 
-    -- The byte that is remembered is taken.
-    module _ (x : ℕ) (e : k ≡ Byte x) (r : Taken) (q : r ≡ takenBy s (take (treeOf t s) (configOf s) x)) where
-      goes-is : (m : Move) → m ≡ moveOf (hitIn (take (treeOf t s) (configOf s) x .events)) → record { state = r .state; step = m } ≡ lookedIn t s
-      goes-is m h = ap (λ r. at (r .state) m) q ∙ ap (at (takenBy s (take (treeOf t s) (configOf s) x) .state)) h ∙ by (Byte x) e
+  -- What it comes to.
+  pub over-comes : Chosen t s Finished → to s over ≡ advancedIn t s
+  over-comes e = sym (ap (advancedBy s) e)
 
-      pub goes-on : r .found ≡ On → record { state = r .state; step = Goes } ≡ lookedIn t s
-      goes-on f = goes-is Goes (move-on (hitIn (take (treeOf t s) (configOf s) x .events)) (sym (ap (λ r. r .found) q) ∙ f))
+  pub wants-comes : (p : ℕ) → Chosen t s (Wants p) → to s (waits p) ≡ advancedIn t s
+  wants-comes p e = sym (ap (advancedBy s) e)
 
-      pub goes-hit : (b j : ℕ) → r .found ≡ Hit b j → record { state = r .state; step = Found b j } ≡ lookedIn t s
-      goes-hit b j f = goes-is (Found b j) (move-hit (hitIn (take (treeOf t s) (configOf s) x .events)) b j (sym (ap (λ r. r .found) q) ∙ f))
+  pub ends-comes : Chosen t s End → (r : Scan) → r ≡ moved s (endRound (treeOf t s) (configOf s) none .config) (s .due) → to r on ≡ advancedIn t s
+  ends-comes e r q = ap (λ r. to r on) q ∙ sym (ap (advancedBy s) e)
+
+  module _ (x : ℕ) (e : Chosen t s (Take x)) (r : Taken) (q : r ≡ takenBy s (take (treeOf t s) (configOf s) x)) where
+    comes : (m : Moved) → m ≡ moveOf (hitIn (take (treeOf t s) (configOf s) x .events)) → to (r .state) m ≡ advancedIn t s
+    comes m h = ap (λ r. to (r .state) m) q ∙ ap (to (takenBy s (take (treeOf t s) (configOf s) x) .state)) h ∙ sym (ap (advancedBy s) e)
+
+    pub goes-on : r .found ≡ On → to (r .state) on ≡ advancedIn t s
+    goes-on f = comes on (move-on (hitIn (take (treeOf t s) (configOf s) x .events)) (sym (ap (λ r. r .found) q) ∙ f))
+
+    pub goes-hit : (b j : ℕ) → r .found ≡ Hit b j → to (r .state) (hits b j) ≡ advancedIn t s
+    goes-hit b j f = comes (hits b j) (move-hit (hitIn (take (treeOf t s) (configOf s) x .events)) b j (sym (ap (λ r. r .found) q) ∙ f))

@@ -10,14 +10,12 @@ use Rattle.rules.specs.Laws.Limit.Ends.{stepsLeft}
 use Rattle.trie.specs.Tables.{Tables}
 use Rattle.scan.specs.declared.Scan.{Scan}
 use Rattle.scan.specs.declared.Stretch.{Stretch as Slot}
-use Rattle.scan.specs.declared.steps.Move.the-variants.{Finished, Wants, On as Goes, Hit as Found}
-use Rattle.scan.specs.declared.steps.Advanced.{Advanced}
 use Rattle.scan.specs.declared.Answer.the-variants.{Fetch, Hit, Done}
 use Rattle.scan.specs.declared.Stepped.{Stepped as Result}
 use Rattle.scan.specs.State.{configOf, treeOf}
 use Rattle.scan.specs.Calls.{Hit as Heard, noHit, hitOf, hitIn, moved, settle, enough}
 use Rattle.scan.specs.Results.{steppedOf}
-use Rattle.scan.specs.Steps.{Steady, moveOf, advancedBy, advancedIn}
+use Rattle.scan.specs.Steps.{Steady, Advanced, over as Finished, waits as Wants, on as Goes, hits as Found, moveOf, advancedBy, advancedIn}
 use Rattle.scan.specs.Laws.Slots.{slots-laid}
 use Rattle.scan.specs.Laws.Within.{moved-config, moved-slots}
 use Rattle.scan.specs.Laws.Stay.{next-within}

@@ -3,7 +3,8 @@ use Prim.Native.Nat.{ℕ}
 use mathlib.Core.Path.{_≡_}
 use mathlib.Core.Bool.{true}
 use mathlib.Core.List.{List}
-use Rattle.rules.specs.Rules.{Step, Next, finished, wants, goes, place, recall, look, next}
+use mathlib.Core.Option.{none}
+use Rattle.rules.specs.Rules.{Step, Next, finished, wants, goes, place, recalled, endRound, after, take, next}
 use Rattle.trie.specs.Tables.{Tables}
 use Rattle.trie.specs.Answers.{tables}
 use Rattle.scan.specs.declared.Scan.{Scan}
@@ -11,8 +12,7 @@ use Rattle.scan.specs.declared.steps.Found.{Found}
 use Rattle.scan.specs.declared.steps.Found.the-variants.{On, Hit}
 use Rattle.scan.specs.declared.steps.Taken.{Taken}
 use Rattle.scan.specs.declared.steps.Move.{Move}
-use Rattle.scan.specs.declared.steps.Move.the-variants.{Finished, Wants, On as Goes, Hit as Hits}
-use Rattle.scan.specs.declared.steps.Advanced.{Advanced}
+use Rattle.scan.specs.declared.steps.Move.the-variants.{Finished, Wants, End, Take}
 use Rattle.scan.specs.State.{configOf, treeOf, slotsOk}
 use Rattle.scan.specs.Calls.{Hit as Heard, noHit, hitOf, hitIn, moved}
 use Rattle.scan.specs.Laws.Within.{Ready, Within}
@@ -38,20 +38,40 @@ foundOf (hitOf e i) = Hit e i
 abbrev pub takenBy : Scan → Step ℕ → Taken
 takenBy s w = record { state = moved s (w .config) (s .due); found = foundOf (hitIn (w .events)) }
 
-abbrev pub moveOf : Heard → Move
-moveOf noHit = Goes
-moveOf (hitOf e i) = Hits e i
+-- A look at the next place without a look at the tokens.
+pub record Looking (parent label first : List ℕ) (s : Scan) : Type 0 where
+  pub token : List ℕ
+  pub next : List ℕ
+  pub steady : Steady (tables parent label token first next) s
 
--- What comes next from a state.
-abbrev pub advancedBy : Scan → Next ℕ → Advanced
-advancedBy s finished = record { state = s; step = Finished }
-advancedBy s (wants at) = record { state = s; step = Wants at }
-advancedBy s (goes w) = record { state = moved s (w .config) (s .due); step = moveOf (hitIn (w .events)) }
-
-abbrev pub lookedIn : Tables → Scan → Advanced
-lookedIn t s =
+-- What comes next from a state, as the rules have it.
+abbrev pub Chosen : Tables → Scan → Move → Type 0
+Chosen t s Finished = next (treeOf t s) (s .image) (configOf s) ≡ finished
+Chosen t s (Wants at) = next (treeOf t s) (s .image) (configOf s) ≡ wants at
+Chosen t s End = next (treeOf t s) (s .image) (configOf s) ≡ goes (endRound (treeOf t s) (configOf s) none)
+Chosen t s (Take x) =
     let c = configOf s in
-    advancedBy s (look (treeOf t s) c (recall (treeOf t s) (c .stretches) (place c)))
+    next (treeOf t s) (s .image) c ≡ goes (after (recalled (place c)) (take (treeOf t s) c x))
+
+-- A step: the state after it, and what it comes to.
+pub data Moved : Type 0 where
+  over : Moved
+  waits : ℕ → Moved
+  on : Moved
+  hits : ℕ → ℕ → Moved
+
+pub record Advanced : Type 0 where
+  pub state : Scan
+  pub step : Moved
+
+abbrev pub moveOf : Heard → Moved
+moveOf noHit = on
+moveOf (hitOf e i) = hits e i
+
+abbrev pub advancedBy : Scan → Next ℕ → Advanced
+advancedBy s finished = record { state = s; step = over }
+advancedBy s (wants at) = record { state = s; step = waits at }
+advancedBy s (goes w) = record { state = moved s (w .config) (s .due); step = moveOf (hitIn (w .events)) }
 
 abbrev pub advancedIn : Tables → Scan → Advanced
 advancedIn t s = advancedBy s (next (treeOf t s) (s .image) (configOf s))

@@ -3,14 +3,14 @@
 ghost use mathlib.Core.Path.{_≡_};
 ghost use mathlib.Core.Bool.{false};
 ghost use mathlib.Core.List.{List};
-ghost use Prim.Native.Nat.{ℕ, _<_};
+ghost use Prim.Native.Nat.{ℕ};
 ghost use Rattle.rules.specs.Rules.{endRound, take};
 ghost use Rattle.trie.specs.Answers.{tables};
 ghost use Rattle.scan.specs.State.{configOf, treeOf};
 ghost use Rattle.scan.specs.Calls.{moved, settle, enough};
 ghost use Rattle.scan.specs.Shifts.{closingOf};
 ghost use Rattle.scan.specs.Results.{steppedOf};
-ghost use Rattle.scan.specs.Steps.{Steady, Ending, takenBy, lookedIn, advancedIn};
+ghost use Rattle.scan.specs.Steps.{Steady, Ending, Looking, takenBy, Chosen};
 use crate::Answer;
 use crate::Scan;
 use crate::Stepped;
@@ -32,17 +32,12 @@ pub struct Taken {
     pub found: Found,
 }
 
-// What comes next: nothing, a place to fetch, or a step that needs no fetch, with its hit.
+// What comes next: nothing, a place to fetch, the round's end, or a byte that is remembered.
 pub enum Move {
     Finished,
     Wants(usize),
-    On,
-    Hit(usize, usize),
-}
-
-pub struct Advanced {
-    pub state: Scan,
-    pub step: Move,
+    End,
+    Take(u8),
 }
 
 // Rules 4 to 6: a round ends.
@@ -118,74 +113,25 @@ pub fn take(
     }
 }
 
-// Rule 2: a look at a place, whose byte is taken where it is remembered.
-fn look(
-    scan: Scan,
-    parent: &[u16],
-    label: &[u8],
-    token: &[u16],
-    first: &[u16],
-    next: &[u16],
-) -> Advanced
-    requires { ⌜ Steady (tables (now parent) (now label) (now token) (now first) (now next)) scan ⌝ }
-    requires { ⌜ scan .depth < scan .boundary ⌝ }
-    ensures { λ r.
-        let t = tables (now (parent .entry)) (now (label .entry)) (now (token .entry)) (now (first .entry)) (now (next .entry)) in
-        ⌜ r ≡ lookedIn t scan ⌝ }
-{
-    let at = scan.boundary - 1 - scan.depth;
-    let slots = scan.stretches;
-    match stretches::recall(parent, label, slots, at) {
-        Recalled::Nothing => Advanced {
-            state: scan,
-            step: Move::Wants(at),
-        },
-        Recalled::Byte(x) => {
-            let taken = take(scan, parent, label, token, first, next, x);
-            let state = taken.state;
-            let found = taken.found;
-            match found {
-                Found::On => Advanced {
-                    state,
-                    step: Move::On,
-                },
-                Found::Hit(end, number) => Advanced {
-                    state,
-                    step: Move::Hit(end, number),
-                },
-            }
-        }
-    }
-}
-
-// Rules 1 and 2: what comes next, and the state after it.
-pub fn advance(
-    scan: Scan,
-    parent: &[u16],
-    label: &[u8],
-    token: &[u16],
-    first: &[u16],
-    next: &[u16],
-) -> Advanced
-    requires { ⌜ Steady (tables (now parent) (now label) (now token) (now first) (now next)) scan ⌝ }
-    ensures { λ r.
-        let t = tables (now (parent .entry)) (now (label .entry)) (now (token .entry)) (now (first .entry)) (now (next .entry)) in
-        ⌜ r ≡ advancedIn t scan ⌝ }
+// Rules 1 and 2: what comes next. It leaves the state where it is: a state is large to hand back.
+fn choose(scan: Scan, parent: &[u16], label: &[u8], first: &[u16]) -> Move
+    requires { ⌜ Looking (now parent) (now label) (now first) scan ⌝ }
+    ensures { λ r. ⌜ ((token next : List ℕ) →
+        Chosen (tables (now (parent .entry)) (now (label .entry)) token (now (first .entry)) next) scan r) ⌝ }
 {
     if scan.image < scan.boundary {
-        return Advanced {
-            state: scan,
-            step: Move::Finished,
-        };
+        return Move::Finished;
     }
     let node = scan.node;
     if first[node] == 0 || scan.depth == scan.boundary {
-        return Advanced {
-            state: end_round(scan, parent, label, token, Closing::Nothing),
-            step: Move::On,
-        };
+        return Move::End;
     }
-    look(scan, parent, label, token, first, next)
+    let at = scan.boundary - 1 - scan.depth;
+    let slots = scan.stretches;
+    match stretches::recall(parent, label, slots, at) {
+        Recalled::Nothing => Move::Wants(at),
+        Recalled::Byte(x) => Move::Take(x),
+    }
 }
 
 // A call runs on until it can answer: each step takes a byte of the round or ends it, so it does.
@@ -205,31 +151,38 @@ pub fn settle(
 {
     let mut at = scan;
     loop {
-        let advanced = advance(at, parent, label, token, first, next);
-        let mut state = advanced.state;
-        let step = advanced.step;
-        match step {
-            Move::On => {
-                at = state;
-            }
+        match choose(at, parent, label, first) {
             Move::Finished => {
                 return Stepped {
-                    state,
+                    state: at,
                     answer: Answer::Done,
                 };
             }
             Move::Wants(place) => {
-                state.due = true;
+                at.due = true;
                 return Stepped {
-                    state,
+                    state: at,
                     answer: Answer::Fetch(place),
                 };
             }
-            Move::Hit(end, number) => {
-                return Stepped {
-                    state,
-                    answer: Answer::Hit(end, number),
-                };
+            Move::End => {
+                at = end_round(at, parent, label, token, Closing::Nothing);
+            }
+            Move::Take(x) => {
+                let taken = take(at, parent, label, token, first, next, x);
+                let state = taken.state;
+                let found = taken.found;
+                match found {
+                    Found::On => {
+                        at = state;
+                    }
+                    Found::Hit(end, number) => {
+                        return Stepped {
+                            state,
+                            answer: Answer::Hit(end, number),
+                        };
+                    }
+                }
             }
         }
     }
