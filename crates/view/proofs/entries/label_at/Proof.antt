@@ -1,0 +1,12 @@
+-- `label_at` meets its contract: past the end `getD` gives 0 too.
+use mathlib.Core.Path.{sym}
+use borrow.Author.Needs.{needs}
+use lib.ListN.{List·getD-eq-default}
+use Rattle.view.proofs.entries.label_at.Statement.{statement}
+use Rattle.view.proofs.entries.label_at.Tie as tie
+
+returns-2 : tie.Need-returns-2
+returns-2 c = sym (List·getD-eq-default (c .before .args .s .now) 0 (c .if1 .left))
+
+pub label-at-spec : {M : Type 1} → statement M
+label-at-spec = tie.close (tie.spec (λ c. search needs) (λ c. search needs) returns-2)
