@@ -7,7 +7,7 @@ static const uint8_t *last[256]; /* the last byte of each token */
 static size_t size[256], many;
 static uint8_t label[NODES];
 static uint16_t token[NODES], first[NODES], next[NODES];
-static uint16_t kids[256], skip[256], by_node[NODES], by_byte[DEPTHS * 256];
+static uint16_t kids[256], skip[256], pairs[65536], by_node[NODES], by_byte[DEPTHS * 256];
 
 static size_t body_length(uint8_t kind) { return kind <= 64 ? kind : (size_t)128 << (kind - 65); }
 
@@ -91,6 +91,7 @@ byhand_found byhand_sweep(const uint8_t *book, const uint8_t *image, size_t n, u
     byhand_found found = {0, 0};
     build();
     memset(skip, 0, sizeof skip);
+    memset(pairs, 0, sizeof pairs);
     memset(by_node, 0, sizeof by_node);
     memset(by_byte, 0, sizeof by_byte);
     while (b <= n) {
@@ -98,23 +99,25 @@ byhand_found byhand_sweep(const uint8_t *book, const uint8_t *image, size_t n, u
         size_t by, node, d = 0;
         int closed = 0;
         if (!used) {
-            while ((by = skip[x])) {
-                if (b + 3 * shortest <= n) {
-                    const uint8_t *p = image + b - 1;
-                    if (by + (size_t)skip[p[shortest]] + skip[p[2 * shortest]] + skip[p[3 * shortest]] == 4 * shortest) {
-                        found.fetched += 4;
-                        b += 4 * shortest;
-                        if (b > n) return found;
-                        x = image[b - 1];
-                        continue;
-                    }
+            for (;;) {
+                const uint8_t *p = image + b - 1;
+                if ((by = skip[x])) {
+                    int full = shortest < 256 && b + 3 * shortest <= n &&
+                               by + (size_t)skip[p[shortest]] + skip[p[2 * shortest]] + skip[p[3 * shortest]] == 4 * shortest;
+                    found.fetched += full ? 4 : 1;
+                    if (full) b += 4 * shortest;
+                    else b += by;
+                } else if (b > 1 && (by = pairs[256 * p[-1] + x])) {
+                    found.fetched += 2;
+                    b += by;
+                } else {
+                    break;
                 }
-                found.fetched++;
-                b += by;
                 if (b > n) return found;
                 x = image[b - 1];
             }
         }
+        size_t before = found.hits;
         node = kids[x];
         if (!node) closed = 1;
         while (node && !closed) {
@@ -132,6 +135,7 @@ byhand_found byhand_sweep(const uint8_t *book, const uint8_t *image, size_t n, u
         }
         by = shift_of(shortest, image + b, node, d, closed, x);
         if (!d && closed) skip[x] = by;
+        if (d == 1 && closed && found.hits == before) pairs[256 * x + image[b - 1]] = by;
         size_t low = b - d - closed, from = b - d, edge = from, k = 0;
         found.fetched += b - low;
         if (used || d >= 4 * by) {

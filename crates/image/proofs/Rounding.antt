@@ -90,6 +90,7 @@ module _ {book image label token first next : List ℕ} {count shortest : ℕ} (
           named = g .stands .named (reached here image b .node) (s .below) ∙ s .node;
           deep = s .depth;
           closing = closing-stop (reached here image b .closing) ∙ s .closing;
+          marked = s .marked;
         })
 
     -- And it goes on from there with what it met.

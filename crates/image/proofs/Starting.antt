@@ -34,10 +34,12 @@ none-at (suc n) (suc i) = none-at n i
 none-long : (n : ℕ) → length (none n) ≡ n
 none-long n = length-replicate {A = ℕ} n 0
 
-pub no-shifts : (book : List ℕ) (shortest : ℕ) → Caches book shortest (replicate 16385 0) (replicate 16384 0) (replicate 256 0)
-no-shifts book shortest = record {
+pub no-shifts : (book image : List ℕ) (shortest : ℕ)
+    → Caches book image shortest (replicate 16385 0) (replicate 16384 0) (replicate 256 0) (replicate 65536 0)
+no-shifts book image shortest = record {
   size = none-long 16385;
   by-node = record { right = λ v f. absurd (f (none-at 16385 v)) };
   by-byte = record { size = none-long 16384; right = λ d x _ _ f. absurd (f (none-at 16384 (256 * d + x))) };
   by-skip = record { size = none-long 256; right = λ x _ f. absurd (f (none-at 256 x)) };
+  by-pair = record { size = none-long 65536; right = λ y x _ _ f. absurd (f (none-at 65536 (256 * y + x))) };
 }

@@ -1,15 +1,15 @@
 -- The end of a round: what the skip cache learns, that the shift is as the rules say, and so what is fetched and remembered.
-use Prim.Native.Nat.{ℕ, _+_, _-_, _*_, _^_, _≤_, _<_}
+use Prim.Native.Nat.{ℕ, suc, _+_, _-_, _*_, _^_, _≤_, _<_}
 use native.Mathlib.Omega.{arith}
 use mathlib.Core.Path.{_≡_, refl, ap, sym, _∙_}
-use mathlib.Core.List.{List}
-use mathlib.Core.Bool.{true, _&&_}
+use mathlib.Core.List.{List, []}
+use mathlib.Core.Bool.{Bool, true, false, _&&_}
 use mathlib.Core.Option.{Option, some, none}
 use borrow.Author.Tests.{eqb-true, ltb-true}
 use lib.Dec.{eqb, ltb}
-use lib.ListN.{length, take, drop, set, length-set}
+use lib.ListN.{length, take, drop, getD, set, length-set}
 use lib.Seq.{getD-set-same, getD-set-other}
-use Rattle.rules.specs.Tokens.{shiftOf, shortestOf}
+use Rattle.rules.specs.Tokens.{ofTokens, shiftOf, shortestOf}
 use Rattle.rules.specs.Laws.Tests.{split, and-l, and-r}
 use Rattle.rules.specs.Laws.Limit.Count.{loose}
 use Rattle.image.specs.declared.walk.Stop.{Stop}
@@ -21,8 +21,8 @@ use Rattle.image.specs.Rounds.{Reached, lowest}
 use Rattle.book.specs.Book.{maxImage}
 use Rattle.image.specs.Spans.{inUse, renewed, Fits}
 use Rattle.image.specs.Rule5.{tokensOf, Accepted, closingOf, nameOf, BySkip}
-use Rattle.image.specs.Sweeping.{Standing, Known, lowestOf, Learns, endAt, shiftAt, Ended}
-use Rattle.image.specs.Laws.Roots.{first-shut}
+use Rattle.image.specs.Sweeping.{Standing, Known, lowestOf, Learns, endAt, shiftAt, ByPair, Sees, Ended}
+use Rattle.image.specs.Laws.Roots.{first-shut, down-closes}
 use Rattle.image.specs.Laws.Spans.{none-renewed, none-loose, loose-upto}
 use Rattle.image.specs.Laws.Sweeping.{depths, matched, raised, renewed-few, stands-fit, fetched-small}
 
@@ -47,6 +47,21 @@ by-skip-set {cache = cache} {by = by} x h z c l b = record {
       (λ e. rw (getD-set-other cache x y by 0 e) (b .right y hy));
 }
 
+-- And by both bytes.
+pub by-pair-set : {book image cache : List ℕ} {x depth by : ℕ} {stop : Stop} {marked : Bool} (y : ℕ) → y < 256 → x < 256
+    → depth ≡ 1 → marked ≡ false → closingOf stop ≡ some y → Sees book image x depth stop marked by → ByPair book image cache
+    → ByPair book image (set cache (256 * y + x) by)
+by-pair-set {book} {image} {cache} {x} {by = by} y hy hx one unmarked c l b = record {
+  size = length-set cache (256 * y + x) by ∙ b .size;
+  right = λ v u hv hu.
+      split (256 * v + u) (256 * y + x)
+      (λ e _.
+      let p : v ≡ y = omega arith in
+      let q : u ≡ x = omega arith in
+      rw (p, q, getD-set-same cache (256 * y + x) by 0 (omega (arith, b .size))) (l .seen y one unmarked c))
+      (λ e. rw (getD-set-other cache (256 * y + x) (256 * v + u) by 0 e) (b .right v u hv hu));
+}
+
 -- The round from a standing ended where the rules say.
 pub record Arrives (book image : List ℕ) (shortest : ℕ) (at : Standing) (arrival : Arrival) : Type 0 where
   pub read : Accepted book shortest
@@ -56,6 +71,7 @@ pub record Arrives (book image : List ℕ) (shortest : ℕ) (at : Standing) (arr
   pub named : nameOf book (arrival .node) ≡ endAt book image (at .boundary) .node
   pub deep : arrival .depth ≡ endAt book image (at .boundary) .depth
   pub closing : closingOf (arrival .stop) ≡ endAt book image (at .boundary) .closing
+  pub marked : arrival .marked ≡ endAt book image (at .boundary) .marked
 
 module _ {book image : List ℕ} {S : ℕ} {at : Standing} {arrival : Arrival} (a : Arrives book image S at arrival) where
   abbrev b : ℕ
@@ -98,6 +114,25 @@ module _ {book image : List ℕ} {S : ℕ} {at : Standing} {arrival : Arrival} (
       none = λ x z c.
           first-shut (tokensOf book) (shortestOf (tokensOf book)) image b x (sym (a .deep) ∙ z) (sym (a .closing) ∙ c);
       right = λ x z c. let k : b - (b - d) ≡ 0 = omega arith in rw (k, c) at e;
+    }
+
+    pub sees : (x : ℕ) → x ≡ getD image (b - 1) 0 → Sees book image x d (arrival .stop) (arrival .marked) by
+    sees x is = record {
+      seen = λ y one unmarked c.
+          let shut = sym (a .closing) ∙ c in
+          let deep = sym (a .deep) ∙ one in
+          let k = down-closes (ofTokens (tokensOf book) (shortestOf (tokensOf book))) image b (suc b) [] 0 false y shut in
+          let p : b - 1 - r .depth ≡ b - 2 = omega arith in
+          record {
+            b = b;
+            before = omega (arith, k .1, arrives-deep);
+            first = sym is;
+            second = rw p at (k .0);
+            deep = deep;
+            closing = shut;
+            unmet = sym (a .marked) ∙ unmarked;
+            shift = by-is;
+          };
     }
 
     pub ended : (low hits : ℕ) → low ≡ lowestOf b d (arrival .stop)

@@ -1,7 +1,7 @@
 -- What holds of a sweep between its rounds, and what a round does to it.
 use Prim.Native.Nat.{ℕ, _+_, _-_, _*_, _≤_, _<_}
 use mathlib.Core.Path.{_≡_}
-use mathlib.Core.Bool.{false}
+use mathlib.Core.Bool.{Bool, false}
 use mathlib.Core.List.{List, [], _∷_, _++_}
 use mathlib.Core.Option.{some}
 use lib.ListN.{length, getD}
@@ -64,13 +64,6 @@ module _ (book image : List ℕ) where
     pub found : List (ℕ × ℕ)
     pub stands : Stands at found
 
--- The caches, right for a book.
-pub record Caches (book : List ℕ) (shortest : ℕ) (nodes bytes skip : List ℕ) : Type 0 where
-  pub size : length nodes ≡ 16385
-  pub by-node : ByNode book shortest nodes
-  pub by-byte : ByByte book shortest bytes
-  pub by-skip : BySkip book shortest skip
-
 -- The leftmost place that a round looked at.
 abbrev pub lowestOf : ℕ → ℕ → Stop → ℕ
 lowestOf b depth Nothing = b - depth
@@ -88,6 +81,34 @@ module _ (book image : List ℕ) where
 
   abbrev pub shiftAt : ℕ → ℕ
   shiftAt b = shiftOf (tokensOf book) (shortestOf (tokensOf book)) (endAt b .node) (endAt b .closing)
+
+  -- A round was seen that ended at its second byte y, left of x, met no token and shifted by so much.
+  pub record Seen (y x by : ℕ) : Type 0 where
+    pub b : ℕ
+    pub before : 2 ≤ b
+    pub first : getD image (b - 1) 0 ≡ x
+    pub second : getD image (b - 2) 0 ≡ y
+    pub deep : endAt b .depth ≡ 1
+    pub closing : endAt b .closing ≡ some y
+    pub unmet : endAt b .marked ≡ false
+    pub shift : by ≡ shiftAt b
+
+  -- The shift of a round that ends at its second byte without a token met, by both bytes.
+  pub record ByPair (cache : List ℕ) : Type 0 where
+    pub size : length cache ≡ 65536
+    pub right : (y x : ℕ) → y < 256 → x < 256 → (getD cache (256 * y + x) 0 ≡ 0 → ⊥) → Seen y x (getD cache (256 * y + x) 0)
+
+  -- If the round ended so, it was seen.
+  pub record Sees (x depth : ℕ) (stop : Stop) (marked : Bool) (by : ℕ) : Type 0 where
+    pub seen : (y : ℕ) → depth ≡ 1 → marked ≡ false → closingOf stop ≡ some y → Seen y x by
+
+  -- The caches, right for a book and an image.
+  pub record Caches (shortest : ℕ) (nodes bytes skip pairs : List ℕ) : Type 0 where
+    pub size : length nodes ≡ 16385
+    pub by-node : ByNode book shortest nodes
+    pub by-byte : ByByte book shortest bytes
+    pub by-skip : BySkip book shortest skip
+    pub by-pair : ByPair pairs
 
   -- A round starts at boundary b, within the image, with so many hits before it.
   pub record Begun (b hits : ℕ) : Type 0 where
@@ -121,6 +142,16 @@ module _ (image skip : List ℕ) where
     pub three : Cached (b + 2 * S) S
     pub four : Cached (b + 3 * S) S
 
+module _ (image pairs : List ℕ) where
+  -- The cache has this shift for a round at boundary b that ends at its second byte.
+  pub record Paired (b by : ℕ) : Type 0 where
+    pub before : 2 ≤ b
+    pub inside : b ≤ length image
+    pub first : getD image (b - 1) 0 < 256
+    pub second : getD image (b - 2) 0 < 256
+    pub shift : by ≡ getD pairs (256 * getD image (b - 2) 0 + getD image (b - 1) 0) 0
+
+module _ (image skip pairs : List ℕ) where
   -- A sweep at boundary b, with so many stretches in use, and a cache that is right for its book.
   pub record Skimmable (S b used : ℕ) : Type 0 where
     pub book : List ℕ
@@ -130,11 +161,12 @@ module _ (image skip : List ℕ) where
     pub spans : at .spans .used ≡ used
     pub within : length image ≤ maxImage
     pub right : BySkip book S skip
+    pub paired : ByPair book image pairs
     pub short : S ≡ shortestOf (tokensOf book)
 
   -- From boundary b to another by rounds that find nothing, with so many looks at the image.
   pub record Leads (S b used after looks : ℕ) : Type 0 where
-    pub stands : (book : List ℕ) → BySkip book S skip → S ≡ shortestOf (tokensOf book)
+    pub stands : (book : List ℕ) → BySkip book S skip → ByPair book image pairs → S ≡ shortestOf (tokensOf book)
         → (at : Standing) → at .boundary ≡ b → at .spans .used ≡ used
         → (found : List (ℕ × ℕ)) → Stands book image at found → Stands book image (onAt at after looks) found
 

@@ -28,10 +28,11 @@ fn rounds(
     nodes: &mut [u16],
     bytes: &mut [u16],
     skip: &mut [u16],
+    pairs: &mut [u16],
 ) -> Found
     requires given { ⌜ Given (now book) (now image) (now label) (now token) (now first) (now next) count shortest ⌝ }
     requires kids { ⌜ Kids (now label) (now first) (now next) count (now kids) ⌝ }
-    requires caches { ⌜ Caches (now book) shortest (now nodes) (now bytes) (now skip) ⌝ }
+    requires caches { ⌜ Caches (now book) (now image) shortest (now nodes) (now bytes) (now skip) (now pairs) ⌝ }
     ensures hits { λ r. ⌜ r .hits ≡ length (hitsOf (tokensOf (now (book .entry))) (now (image .entry))) ⌝ }
     ensures fetched { λ r. ⌜ r .fetched ≡ fetchesOf (tokensOf (now (book .entry))) (now (image .entry)) ⌝ }
     ensures ends { λ r. ⌜ now (ends .exit) ≡ noted (λ h. h .0) (room (now (ends .entry)) (now (tokens .entry)))
@@ -61,6 +62,7 @@ fn rounds(
             nodes,
             bytes,
             skip,
+            pairs,
         );
         if forgets(spans.used, a.depth, a.by) {
             fetched += b - a.low;
@@ -69,7 +71,7 @@ fn rounds(
             spans = spans::remember(spans, b - a.depth, b, b + a.by);
         }
         hits = a.hits;
-        let on = ahead(b + a.by, spans.used, image, skip, shortest);
+        let on = ahead(b + a.by, spans.used, image, skip, pairs, shortest);
         b = on.boundary;
         fetched += on.looks;
     }
@@ -101,6 +103,7 @@ pub fn sweep(
     let mut nodes = [0u16; 16385];
     let mut bytes = [0u16; 16384];
     let mut skip = [0u16; 256];
+    let mut pairs = [0u16; 65536];
     rounds(
         book,
         image,
@@ -116,5 +119,6 @@ pub fn sweep(
         &mut nodes,
         &mut bytes,
         &mut skip,
+        &mut pairs,
     )
 }

@@ -1,12 +1,12 @@
-// Rounds that end at their first byte, when nothing is remembered and their shift is known: most of a sweep.
-ghost use Prim.Native.Nat.{ℕ, _^_, _≤_};
+// Rounds that end at their first or second byte, when nothing is remembered and their shift is known: most of a sweep.
+ghost use Prim.Native.Nat.{ℕ, _^_, _≤_, _<_};
 ghost use mathlib.Core.Path.{_≡_};
 ghost use mathlib.Core.Bool.{true};
 ghost use lib.ListN.{length};
-ghost use Rattle.image.specs.Sweeping.{Cached, Four, Skimmable, Skimmed};
+ghost use Rattle.image.specs.Sweeping.{Cached, Four, Paired, Skimmable, Skimmed};
 use crate::walk::wide;
 
-// How far such rounds lead, and how many there were: each looks at one byte.
+// How far such rounds lead, and how many bytes they looked at.
 pub struct Skipped {
     pub boundary: usize,
     pub looks: usize,
@@ -41,9 +41,9 @@ fn full(image: &[u8], skip: &[u16], b: usize, shortest: usize) -> bool
 }
 
 // Four at a time, as often as they come one after the other.
-fn stride(b: usize, image: &[u8], skip: &[u16], shortest: usize) -> Skipped
-    requires { ⌜ Skimmable (now image) (now skip) shortest b 0 ⌝ }
-    ensures { λ r. ⌜ Skimmed (now (image .entry)) (now (skip .entry)) shortest b 0 r ⌝ }
+fn stride(b: usize, image: &[u8], skip: &[u16], pairs: &[u16], shortest: usize) -> Skipped
+    requires { ⌜ Skimmable (now image) (now skip) (now pairs) shortest b 0 ⌝ }
+    ensures { λ r. ⌜ Skimmed (now (image .entry)) (now (skip .entry)) (now (pairs .entry)) shortest b 0 r ⌝ }
 {
     let mut at = b;
     let mut looks = 0;
@@ -57,21 +57,57 @@ fn stride(b: usize, image: &[u8], skip: &[u16], shortest: usize) -> Skipped
     }
 }
 
+// The shift of a round at boundary b that ends at its second byte, 0 where it is not known.
+fn pair_at(image: &[u8], pairs: &[u16], b: usize) -> usize
+    requires { ⌜ (1 ≤ b) × (b ≤ length (now image)) × (length (now pairs) ≡ 65536) ⌝ }
+    ensures { λ r. ⌜ ((r ≡ 0 → ⊥) → Paired (now (image .entry)) (now (pairs .entry)) b r) × (r ≤ 65535) ⌝ }
+{
+    if b < 2 {
+        return 0;
+    }
+    wide(pairs[256 * (image[b - 2] as usize) + image[b - 1] as usize])
+}
+
+// The next of such rounds, or some of them at once; no look where there is none.
+fn hop(b: usize, image: &[u8], skip: &[u16], pairs: &[u16], shortest: usize) -> Skipped
+    requires { ⌜ Skimmable (now image) (now skip) (now pairs) shortest b 0 × (b ≤ length (now image)) ⌝ }
+    ensures { λ r. ⌜ Skimmed (now (image .entry)) (now (skip .entry)) (now (pairs .entry)) shortest b 0 r × ((r .looks ≡ 0 → ⊥) → b < r .boundary) ⌝ }
+{
+    let by = skip_at(image, skip, b);
+    if by == 0 {
+        let two = pair_at(image, pairs, b);
+        if two == 0 {
+            return Skipped {
+                boundary: b,
+                looks: 0,
+            };
+        }
+        return Skipped {
+            boundary: b + two,
+            looks: 2,
+        };
+    }
+    let on = stride(b + by, image, skip, pairs, shortest);
+    Skipped {
+        boundary: on.boundary,
+        looks: 1 + on.looks,
+    }
+}
+
 // As many such rounds as come one after the other.
-fn skim(b: usize, image: &[u8], skip: &[u16], shortest: usize) -> Skipped
-    requires { ⌜ Skimmable (now image) (now skip) shortest b 0 ⌝ }
-    ensures { λ r. ⌜ Skimmed (now (image .entry)) (now (skip .entry)) shortest b 0 r ⌝ }
+fn skim(b: usize, image: &[u8], skip: &[u16], pairs: &[u16], shortest: usize) -> Skipped
+    requires { ⌜ Skimmable (now image) (now skip) (now pairs) shortest b 0 ⌝ }
+    ensures { λ r. ⌜ Skimmed (now (image .entry)) (now (skip .entry)) (now (pairs .entry)) shortest b 0 r ⌝ }
 {
     let mut at = b;
     let mut looks = 0;
     while at <= image.len() {
-        let by = skip_at(image, skip, at);
-        if by == 0 {
+        let on = hop(at, image, skip, pairs, shortest);
+        if on.looks == 0 {
             break;
         }
-        let on = stride(at + by, image, skip, shortest);
         at = on.boundary;
-        looks += 1 + on.looks;
+        looks += on.looks;
     }
     Skipped {
         boundary: at,
@@ -80,9 +116,16 @@ fn skim(b: usize, image: &[u8], skip: &[u16], shortest: usize) -> Skipped
 }
 
 // Where something is remembered, no round is skimmed.
-pub fn ahead(b: usize, used: usize, image: &[u8], skip: &[u16], shortest: usize) -> Skipped
-    requires { ⌜ Skimmable (now image) (now skip) shortest b used ⌝ }
-    ensures { λ r. ⌜ Skimmed (now (image .entry)) (now (skip .entry)) shortest b used r ⌝ }
+pub fn ahead(
+    b: usize,
+    used: usize,
+    image: &[u8],
+    skip: &[u16],
+    pairs: &[u16],
+    shortest: usize,
+) -> Skipped
+    requires { ⌜ Skimmable (now image) (now skip) (now pairs) shortest b used ⌝ }
+    ensures { λ r. ⌜ Skimmed (now (image .entry)) (now (skip .entry)) (now (pairs .entry)) shortest b used r ⌝ }
 {
     if used != 0 {
         return Skipped {
@@ -90,5 +133,5 @@ pub fn ahead(b: usize, used: usize, image: &[u8], skip: &[u16], shortest: usize)
             looks: 0,
         };
     }
-    skim(b, image, skip, shortest)
+    skim(b, image, skip, pairs, shortest)
 }

@@ -9,7 +9,7 @@ ghost use Rattle.image.specs.Image.{room};
 ghost use Rattle.image.specs.Rounds.{met};
 ghost use Rattle.image.specs.Walk.{treeIn, Kids, notes};
 ghost use Rattle.image.specs.Rule5.{BySkip};
-ghost use Rattle.image.specs.Sweeping.{lowestOf, Learns, Given, Caches, Begun, Ended};
+ghost use Rattle.image.specs.Sweeping.{lowestOf, Learns, Given, ByPair, Sees, Caches, Begun, Ended};
 use crate::caches;
 use crate::walk::Stop;
 use crate::walk::meet;
@@ -41,6 +41,20 @@ fn learn(skip: &mut [u16], depth: usize, stop: Stop, by: usize)
     }
     if let Stop::Byte(x) = stop {
         skip[x as usize] = by as u16;
+    }
+}
+
+// The same for a round that ended at its second byte, and met no token.
+fn learn_pair(pairs: &mut [u16], first: u8, depth: usize, stop: Stop, marked: bool, by: usize)
+    requires { ⌜ (by ≤ 1024) × (length (now pairs) ≡ 65536) ⌝ }
+    ensures { λ r. ⌜ ((book image : List ℕ) → Sees book image first depth stop marked by
+        → ByPair book image (now (pairs .entry)) → ByPair book image (now (pairs .exit))) ⌝ }
+{
+    if depth != 1 || marked {
+        return;
+    }
+    if let Stop::Byte(y) = stop {
+        pairs[256 * (y as usize) + first as usize] = by as u16;
     }
 }
 
@@ -78,11 +92,12 @@ pub fn attempt(
     nodes: &mut [u16],
     bytes: &mut [u16],
     skip: &mut [u16],
+    pairs: &mut [u16],
 ) -> Outcome
     requires given { ⌜ Given (now book) (now image) (now label) (now token) (now first) (now next) count shortest ⌝ }
     requires begun { ⌜ Begun (now book) (now image) b hits ⌝ }
     requires kids { ⌜ Kids (now label) (now first) (now next) count (now kids) ⌝ }
-    requires caches { ⌜ Caches (now book) shortest (now nodes) (now bytes) (now skip) ⌝ }
+    requires caches { ⌜ Caches (now book) (now image) shortest (now nodes) (now bytes) (now skip) (now pairs) ⌝ }
     ensures ended { λ r. ⌜ Ended (now (book .entry)) (now (image .entry)) b r ⌝ }
     ensures hits { λ r. let found = met (treeIn (now (label .entry)) (now (token .entry)) (now (first .entry)) (now (next .entry)) count) (now (image .entry)) b in
         ⌜ r .hits ≡ hits + length found ⌝ }
@@ -90,7 +105,7 @@ pub fn attempt(
         ⌜ now (ends .exit) ≡ notes (room (now (ends .entry)) (now (tokens .entry))) hits (map (λ h. h .0) found) (now (ends .entry)) ⌝ }
     ensures tokens { λ r. let found = met (treeIn (now (label .entry)) (now (token .entry)) (now (first .entry)) (now (next .entry)) count) (now (image .entry)) b in
         ⌜ now (tokens .exit) ≡ notes (room (now (ends .entry)) (now (tokens .entry))) hits (map (λ h. h .1) found) (now (tokens .entry)) ⌝ }
-    ensures caches { λ r. ⌜ Caches (now (book .entry)) shortest (now (nodes .exit)) (now (bytes .exit)) (now (skip .exit)) ⌝ }
+    ensures caches { λ r. ⌜ Caches (now (book .entry)) (now (image .entry)) shortest (now (nodes .exit)) (now (bytes .exit)) (now (skip .exit)) (now (pairs .exit)) ⌝ }
 {
     let met = meet(
         image,
@@ -119,6 +134,7 @@ pub fn attempt(
         bytes,
     );
     learn(skip, depth, stop, by);
+    learn_pair(pairs, image[b - 1], depth, stop, arrival.marked, by);
     Outcome {
         depth,
         low: lowest(b, depth, stop),

@@ -1,17 +1,17 @@
 -- A round at the root: the root is no leaf, and the round ends there where no token ends with its first byte.
-use Prim.Native.Nat.{ℕ, zero, suc, _+_, _-_, _≤_}
+use Prim.Native.Nat.{ℕ, zero, suc, _+_, _-_, _≤_, _<_}
 use native.Mathlib.Omega.{arith}
-use mathlib.Core.Path.{_≡_, refl}
+use mathlib.Core.Path.{_≡_, refl, ap, _∙_}
 use mathlib.Core.Bool.{Bool, true, false, _&&_, _||_, not}
 use mathlib.Core.List.{List, [], _∷_, _++_}
 use mathlib.Core.Option.{some, none}
-use borrow.Author.Tests.{lt-ltb, ne-eqb}
+use borrow.Author.Tests.{lt-ltb, ne-eqb, eqb-false}
 use lib.Dec.{eqb, ltb}
 use lib.ListN.{length, getD}
 use Rattle.rules.specs.Lists.{any}
 use Rattle.rules.specs.Rules.{Tree}
 use Rattle.rules.specs.Tokens.{ofTokens, ends, grown}
-use Rattle.rules.specs.Laws.Tests.{any-in, decide}
+use Rattle.rules.specs.Laws.Tests.{any-in, decide, or-nl, or-nr}
 use Rattle.rules.specs.Laws.Endings.{front→ends}
 use Rattle.book.specs.Laws.Accepted.{Fit}
 use Rattle.image.specs.Rounds.{Reached, down, reached}
@@ -24,6 +24,39 @@ down-deeper tree image b zero v d m = omega arith
 down-deeper tree image b (suc fuel) v d m =
     down-cases tree image b fuel v d m (λ r _. d ≤ r .depth) (λ _. omega arith) (λ _ _. omega arith)
     (λ _ w _. omega (arith, down-deeper tree image b fuel w (d + 1) (m || not (eqb (tree .token w) 0))))
+
+some-injective : {x y : ℕ} → some x ≡ some y → x ≡ y
+some-injective {x} e = ap (λ o. elim o [ none ↦ x | some z ↦ z ]) e
+
+-- A byte that closes a walk is the one at its depth, which is not the boundary.
+pub down-closes : {E : Type 0} (tree : Tree E) (image : List ℕ) (b fuel : ℕ) (v : E) (d : ℕ) (m : Bool) (y : ℕ)
+    → down tree image b fuel v d m .closing ≡ some y
+    → let k = down tree image b fuel v d m .depth in (getD image (b - 1 - k) 0 ≡ y) × (k ≡ b → ⊥)
+down-closes tree image b zero v d m y = λ e. absurd (let z : _≡_ {A = ℕ} 0 1 = cc in omega arith)
+down-closes tree image b (suc fuel) v d m y =
+    down-cases tree image b fuel v d m (λ r _. r .closing ≡ some y → (getD image (b - 1 - r .depth) 0 ≡ y) × (r .depth ≡ b → ⊥))
+    (λ _ e. absurd (let z : _≡_ {A = ℕ} 0 1 = cc in omega arith))
+    (λ t _ e. (some-injective e, eqb-false d b (or-nr (tree .leaf v) _ t)))
+    (λ _ w _ e. down-closes tree image b fuel w (d + 1) (m || not (eqb (tree .token w) 0)) y e)
+
+-- Where it ends is told by the bytes that it looked at.
+pub down-local : {E : Type 0} (tree : Tree E) (image : List ℕ) (b c k y : ℕ) → k < c
+    → ((j : ℕ) → j ≤ k → getD image (c - 1 - j) 0 ≡ getD image (b - 1 - j) 0)
+    → (fuel more : ℕ) (v : E) (d : ℕ) (m : Bool) → k < d + more
+    → down tree image b fuel v d m .depth ≡ k → down tree image b fuel v d m .closing ≡ some y
+    → down tree image c more v d m ≡ down tree image b fuel v d m
+down-local tree image b c k y h same zero more v d m l = λ p q. absurd (let z : _≡_ {A = ℕ} 0 1 = cc in omega arith)
+down-local tree image b c k y h same (suc fuel) zero v d m l = λ p q. absurd (omega (arith, down-deeper tree image b (suc fuel) v d m))
+down-local tree image b c k y h same (suc fuel) (suc more) v d m l =
+    down-cases tree image b fuel v d m (λ r _. r .depth ≡ k → r .closing ≡ some y → down tree image c (suc more) v d m ≡ r)
+    (λ _ p q. absurd (let z : _≡_ {A = ℕ} 0 1 = cc in omega arith))
+    (λ t e p q. cc (or-nl (tree .leaf v) _ t, ne-eqb d c (λ z. omega arith), same d (omega arith), e))
+    (λ t w e p q.
+    let deep = down-deeper tree image b fuel w (d + 1) (m || not (eqb (tree .token w) 0)) in
+    let again = down-local tree image b c k y h same fuel more w (d + 1) (m || not (eqb (tree .token w) 0)) (omega arith) p q in
+    let step : down tree image c (suc more) v d m ≡ down tree image c more w (d + 1) (m || not (eqb (tree .token w) 0)) =
+    cc (or-nl (tree .leaf v) _ t, ne-eqb d c (λ z. omega (arith, deep)), same d (omega (arith, deep)), e) in
+    step ∙ again)
 
 module _ (tokens : List (List ℕ)) where
   -- Some token is longer than the root's ending, and each has that ending.

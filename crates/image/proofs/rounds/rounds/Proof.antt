@@ -14,29 +14,29 @@ use Rattle.image.proofs.rounds.rounds.Statement.{statement}
 use Rattle.image.proofs.rounds.rounds.Tie as tie
 
 abbrev Inv-loop : tie.InvT-loop
-Inv-loop book image label token first next count kids shortest ends₀ tokens₀ nodes₀ bytes₀ skip₀ b₀ spans₀ fetched₀ hits₀ ends tokens nodes bytes skip b spans fetched hits =
-    Rounding book image shortest ends₀ tokens₀ ends tokens nodes bytes skip (record { boundary = b; spans = spans; fetched = fetched; hits = hits })
+Inv-loop book image label token first next count kids shortest ends₀ tokens₀ nodes₀ bytes₀ skip₀ pairs₀ b₀ spans₀ fetched₀ hits₀ ends tokens nodes bytes skip pairs b spans fetched hits =
+    Rounding book image shortest ends₀ tokens₀ ends tokens nodes bytes skip pairs (record { boundary = b; spans = spans; fetched = fetched; hits = hits })
 
 abbrev μ-loop : tie.MeasureT-loop
-μ-loop book image label token first next count kids shortest ends₀ tokens₀ nodes₀ bytes₀ skip₀ b₀ spans₀ fetched₀ hits₀ ends tokens nodes bytes skip b spans fetched hits =
+μ-loop book image label token first next count kids shortest ends₀ tokens₀ nodes₀ bytes₀ skip₀ pairs₀ b₀ spans₀ fetched₀ hits₀ ends tokens nodes bytes skip pairs b spans fetched hits =
     length image + 1 - b
 
 -- the function's entry, from the loop; the loop, from the round
 abbrev start : tie.At-loop Inv-loop μ-loop → tie.Start Inv-loop μ-loop
-start c = c .before .before .before .before .before .before .before .before .before .before .before .before .before .before
+start c = c .before .before .before .before .before .before .before .before .before .before .before .before .before .before .before
 
 abbrev turn : tie.After-attempt Inv-loop μ-loop → tie.At-loop Inv-loop μ-loop
-turn m = m .before .before .before .before .before .before .before
+turn m = m .before .before .before .before .before .before .before .before
 
 -- the round, from what is then remembered
 abbrev tried : tie.Joined1 Inv-loop μ-loop → tie.After-attempt Inv-loop μ-loop
-tried j = j .before .before .before .before .before .before .before .before .before .before .before .before
+tried j = j .before .before .before .before .before .before .before .before .before .before .before .before .before .before
 
 abbrev here : tie.At-loop Inv-loop μ-loop → Standing
 here c = record { boundary = c .loop .b; spans = c .loop .spans; fetched = c .loop .fetched; hits = c .loop .hits }
 
 inside : (m : tie.After-attempt Inv-loop μ-loop) → turn m .loop .b ≤ length (start (turn m) .args .image .now)
-inside m = m .before .before .before .before .before .before .loop-test .taken
+inside m = m .before .before .before .before .before .before .before .loop-test .taken
 
 numbers : (m : tie.After-attempt Inv-loop μ-loop) → let b = turn m .loop .b in
     let r = m .attempt .result in
@@ -63,7 +63,7 @@ next j = let m = tried j in
 again : (j : tie.Joined1 Inv-loop μ-loop) → let m = tried j in
     let a = start (turn m) .args in
     let l = m .attempt .last .1 .1 .1 .1 .1 .1 .1 .1 .1 .1 .1 in
-    Rounding (a .book .now) (a .image .now) (a .shortest) (a .ends .now) (a .tokens .now) (l .0) (l .1 .0) (l .1 .1 .0) (l .1 .1 .1 .0) (l .1 .1 .1 .1 .0)
+    Rounding (a .book .now) (a .image .now) (a .shortest) (a .ends .now) (a .tokens .now) (l .0) (l .1 .0) (l .1 .1 .0) (l .1 .1 .1 .0) (l .1 .1 .1 .1 .0) (l .1 .1 .1 .1 .1 .0)
     (record { boundary = turn m .loop .b + m .attempt .result .by; spans = j .if1 .spans; fetched = j .if1 .fetched; hits = m .attempt .result .hits })
 again j = let m = tried j in
     let c = turn m in
@@ -78,31 +78,31 @@ none-requires : tie.Need-none-requires Inv-loop μ-loop
 none-requires c κs = search needs
 
 loop-holds : tie.Need-loop-holds Inv-loop μ-loop
-loop-holds c = let s = c .before .before .before .before .before .before .before .before .before .before .before .before .before in
+loop-holds c = let s = c .before .before .before .before .before .before .before .before .before .before .before .before .before .before in
     let e = c .none .ensures in
     rounding-begins (s .args .ends .now) (s .args .tokens .now) (s .pre .0) (s .pre .1 .1) refl e (refl, refl)
 
 attempt-requires : tie.Need-attempt-requires Inv-loop μ-loop
-attempt-requires c κs = let l = c .before .before .before .before .before .before in
+attempt-requires c κs = let l = c .before .before .before .before .before .before .before in
     let p = start l .pre in
-    (p .0, (rounding-begun (l .loop .inv) (c .before .before .before .before .before .loop-test .taken), (p .1 .0, l .loop .inv .caches)))
+    (p .0, (rounding-begun (l .loop .inv) (c .before .before .before .before .before .before .loop-test .taken), (p .1 .0, l .loop .inv .caches)))
 
 forgets-requires : tie.Need-forgets-requires Inv-loop μ-loop
-forgets-requires c κs = numbers (c .before .before .before .before .before .before .before .before .before .before) .3
+forgets-requires c κs = numbers (c .before .before .before .before .before .before .before .before .before .before .before .before) .3
 
 sub-fetched : tie.Need-sub-fetched Inv-loop μ-loop
-sub-fetched c = omega (arith, numbers (c .before .before .before .before .before .before .before .before .before .before .before .before .before))
+sub-fetched c = omega (arith, numbers (c .before .before .before .before .before .before .before .before .before .before .before .before .before .before .before))
 
 add-fetched : tie.Need-add-fetched Inv-loop μ-loop
-add-fetched c = omega (arith, numbers (c .before .before .before .before .before .before .before .before .before .before .before .before .before))
+add-fetched c = omega (arith, numbers (c .before .before .before .before .before .before .before .before .before .before .before .before .before .before .before))
 
 loose-requires : tie.Need-loose-requires Inv-loop μ-loop
-loose-requires c κs = let m = c .before .before .before .before .before .before .before .before .before .before .before .before in
+loose-requires c κs = let m = c .before .before .before .before .before .before .before .before .before .before .before .before .before .before in
     let n = numbers m in
     (ended-fits (known (turn m .loop .inv)) (inside m) (start (turn m) .pre .0 .within) (m .attempt .ensures .0), (n .1, omega (arith, n)))
 
 add-fetched-2 : tie.Need-add-fetched-2 Inv-loop μ-loop
-add-fetched-2 c = let m = c .before .before .before .before .before .before .before .before .before .before .before .before .before in
+add-fetched-2 c = let m = c .before .before .before .before .before .before .before .before .before .before .before .before .before .before .before in
     omega (
       arith,
       numbers m,
@@ -111,13 +111,13 @@ add-fetched-2 c = let m = c .before .before .before .before .before .before .bef
     )
 
 sub-remember : tie.Need-sub-remember Inv-loop μ-loop
-sub-remember c = omega (arith, numbers (c .before .before .before .before .before .before .before .before .before .before .before .before .before .before))
+sub-remember c = omega (arith, numbers (c .before .before .before .before .before .before .before .before .before .before .before .before .before .before .before .before))
 
 add-remember : tie.Need-add-remember Inv-loop μ-loop
-add-remember c = omega (arith, numbers (c .before .before .before .before .before .before .before .before .before .before .before .before .before .before .before))
+add-remember c = omega (arith, numbers (c .before .before .before .before .before .before .before .before .before .before .before .before .before .before .before .before .before))
 
 remember-requires : tie.Need-remember-requires Inv-loop μ-loop
-remember-requires c κs = let m = c .before .before .before .before .before .before .before .before .before .before .before .before .before .before .before in
+remember-requires c κs = let m = c .before .before .before .before .before .before .before .before .before .before .before .before .before .before .before .before .before in
     let n = numbers m in
     let k = known (turn m .loop .inv) in
     let w = start (turn m) .pre .0 .within in
@@ -128,18 +128,18 @@ add-ahead : tie.Need-add-ahead Inv-loop μ-loop
 add-ahead c = omega (arith, numbers (tried (c .before)))
 
 ahead-requires : tie.Need-ahead-requires Inv-loop μ-loop
-ahead-requires c κs = let j = c .before .before in rounding-skimmable (again j) (start (turn (tried j)) .pre .0)
+ahead-requires c κs = let j = c .before .before .before in rounding-skimmable (again j) (start (turn (tried j)) .pre .0)
 
 add-fetched-3 : tie.Need-add-fetched-3 Inv-loop μ-loop
-add-fetched-3 c = let j = c .before .before .before .before .before in
+add-fetched-3 c = let j = c .before .before .before .before .before .before in
     let g = start (turn (tried j)) .pre .0 in
     omega (arith, rounding-small (rounding-skims (again j) g (c .before .before .ahead .ensures .leads)) (g .within) .1)
 
 loop-less : tie.Need-loop-less Inv-loop μ-loop
-loop-less c = let m = tried (c .before .before .before .before .before) in omega (arith, numbers m, inside m, c .before .before .ahead .ensures .up)
+loop-less c = let m = tried (c .before .before .before .before .before .before) in omega (arith, numbers m, inside m, c .before .before .ahead .ensures .up)
 
 loop-again : tie.Need-loop-again Inv-loop μ-loop
-loop-again c = let j = c .before .before .before .before .before in rounding-skims (again j) (start (turn (tried j)) .pre .0) (c .before .before .ahead .ensures .leads)
+loop-again c = let j = c .before .before .before .before .before .before in rounding-skims (again j) (start (turn (tried j)) .pre .0) (c .before .before .ahead .ensures .leads)
 
 same-length : tie.Need-same-length Inv-loop μ-loop
 same-length c = ends-long (c .before .loop .inv)
@@ -155,6 +155,9 @@ same-length-4 c = let t = c .before in t .loop .inv .caches .by-byte .size ∙ s
 
 same-length-5 : tie.Need-same-length-5 Inv-loop μ-loop
 same-length-5 c = let t = c .before in t .loop .inv .caches .by-skip .size ∙ sym (start t .pre .1 .1 .by-skip .size)
+
+same-length-6 : tie.Need-same-length-6 Inv-loop μ-loop
+same-length-6 c = let t = c .before in t .loop .inv .caches .by-pair .size ∙ sym (start t .pre .1 .1 .by-pair .size)
 
 returns : tie.Need-returns Inv-loop μ-loop
 returns c = rounding-done (c .before .loop .inv) (c .loop-test .left)
@@ -186,4 +189,5 @@ rounds-spec =
     same-length-3
     same-length-4
     same-length-5
+    same-length-6
     returns)

@@ -12,15 +12,15 @@ returns c = record { leads = lead-none _ _; up = omega arith }
 
 skim-requires : tie.Need-skim-requires
 skim-requires c κs =
-    let s = c .before .before .before in
+    let s = c .before .before .before .before in
     let a = s .args in
-    subst (Skimmable (a .image .now) (a .skip .now) (a .shortest) (a .b)) (c .if1 .left) (s .pre)
+    subst (Skimmable (a .image .now) (a .skip .now) (a .pairs .now) (a .shortest) (a .b)) (c .if1 .left) (s .pre)
 
 returns-2 : tie.Need-returns-2
 returns-2 c =
-    let s = c .before .before .before .before in
+    let s = c .before .before .before .before .before in
     let a = s .args in
-    subst (λ n. Skimmed (a .image .now) (a .skip .now) (a .shortest) (a .b) n (c .skim .result)) (sym (c .before .if1 .left)) (c .skim .ensures)
+    subst (λ n. Skimmed (a .image .now) (a .skip .now) (a .pairs .now) (a .shortest) (a .b) n (c .skim .result)) (sym (c .before .if1 .left)) (c .skim .ensures)
 
 pub ahead-spec : {M : Type 1} → statement M
 ahead-spec = tie.close (tie.spec returns skim-requires returns-2)

@@ -8,16 +8,16 @@ use Rattle.image.proofs.skim.stride.Statement.{statement}
 use Rattle.image.proofs.skim.stride.Tie as tie
 
 abbrev Inv-loop : tie.InvT-loop
-Inv-loop b image skip shortest at₀ looks₀ at looks = Skimming image skip shortest b at looks
+Inv-loop b image skip pairs shortest at₀ looks₀ at looks = Skimming image skip pairs shortest b at looks
 
 abbrev μ-loop : tie.MeasureT-loop
-μ-loop b image skip shortest at₀ looks₀ at looks = length image + 4096 - at
+μ-loop b image skip pairs shortest at₀ looks₀ at looks = length image + 4096 - at
 
 abbrev start : tie.At-loop Inv-loop μ-loop → tie.Start Inv-loop μ-loop
-start c = c .before .before .before
+start c = c .before .before .before .before
 
 loop-holds : tie.Need-loop-holds Inv-loop μ-loop
-loop-holds c = skimming-begins (c .before .before .pre)
+loop-holds c = skimming-begins (c .before .before .before .pre)
 
 full-requires : tie.Need-full-requires Inv-loop μ-loop
 full-requires c κs = let g = start c .pre in

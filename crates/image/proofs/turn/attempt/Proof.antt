@@ -1,14 +1,15 @@
 -- `attempt` meets its contract: over the tables it ends and meets what a round of the tokens does, and its shift is that of where it ended.
+use Prim.Native.Nat.{_≤_}
 use native.Mathlib.Omega.{arith}
-use mathlib.Core.Path.{_∙_}
+use mathlib.Core.Path.{refl, _∙_}
 use borrow.Author.Needs.{needs}
-use Rattle.image.proofs.Turning.{Arrives, arrives-deep, arrives-named, by-near, learns, ended}
+use Rattle.image.proofs.Turning.{Arrives, arrives-deep, arrives-named, by-near, learns, sees, ended}
 use Rattle.image.proofs.Rounding.{begunAt, begun-known, tables-walk, round-place, round-arrives}
 use Rattle.image.proofs.turn.attempt.Statement.{statement}
 use Rattle.image.proofs.turn.attempt.Tie as tie
 
 abbrev start : tie.After-meet-arg2 → tie.Start
-start c = c .before .before .before .before .before .before .before .before .before .before .before .before .before .before
+start c = c .before .before .before .before .before .before .before .before .before .before .before .before .before .before .before
 
 -- the start, from what was met; and what was met, from the shift
 abbrev begun : tie.After-meet → tie.Start
@@ -51,8 +52,23 @@ learn-requires c κs =
     let m = found h in
     (by-near (arrives m) (h .shift .result) (h .shift .ensures .0), begun m .pre .1 .1 .1 .by-skip .size)
 
+positive : (m : tie.After-meet) → 1 ≤ begun m .args .b
+positive m = begun-known (begun m .pre .1 .0) .stands .positive
+
+sub-learn-pair : tie.Need-sub-learn-pair
+sub-learn-pair c = omega (arith, positive (found (c .before .before .before .before .before .before .before .before .before)))
+
+shared-slice-read-learn-pair : tie.Need-shared-slice-read-learn-pair
+shared-slice-read-learn-pair c = let m = found (c .before .before .before .before .before .before .before .before .before .before) in omega (arith, positive m, begun m .pre .1 .0 .inside)
+
+learn-pair-requires : tie.Need-learn-pair-requires
+learn-pair-requires c κs =
+    let h = c .before .before .before .before .before .before .before .before .before .before in
+    let m = found h in
+    (by-near (arrives m) (h .shift .result) (h .shift .ensures .0), begun m .pre .1 .1 .1 .by-pair .size)
+
 lowest-requires : tie.Need-lowest-requires
-lowest-requires c κs = arrives-deep (arrives (found (c .before .before .before .before .before .before .before .before)))
+lowest-requires c κs = arrives-deep (arrives (found (c .before .before .before .before .before .before .before .before .before .before .before .before .before)))
 
 same-length : tie.Need-same-length
 same-length c = search needs
@@ -69,9 +85,12 @@ same-length-4 c = search needs
 same-length-5 : tie.Need-same-length-5
 same-length-5 c = search needs
 
+same-length-6 : tie.Need-same-length-6
+same-length-6 c = search needs
+
 returns : tie.Need-returns
 returns c =
-    let h = c .before .before .before .before .before .before .before .before .before in
+    let h = c .before .before .before .before .before .before .before .before .before .before .before .before .before .before in
     let m = found h in
     let s = begun m in
     let a = arrives m in
@@ -90,7 +109,8 @@ returns c =
               size = h .shift .ensures .1 .1 ∙ k .size;
               by-node = h .shift .ensures .1 .0 .0;
               by-byte = h .shift .ensures .1 .0 .1;
-              by-skip = c .before .before .before .learn .ensures (s .args .book .now) (s .args .shortest) (learns a by e) (k .by-skip);
+              by-skip = c .before .before .before .before .before .before .before .before .learn .ensures (s .args .book .now) (s .args .shortest) (learns a by e) (k .by-skip);
+              by-pair = c .before .before .before .learn-pair .ensures (s .args .book .now) (s .args .image .now) (sees a by e _ refl) (k .by-pair);
             },
           ),
         ),
@@ -108,10 +128,14 @@ attempt-spec =
     part-shift-end
     shift-requires
     learn-requires
+    sub-learn-pair
+    shared-slice-read-learn-pair
+    learn-pair-requires
     lowest-requires
     same-length
     same-length-2
     same-length-3
     same-length-4
     same-length-5
+    same-length-6
     returns)
