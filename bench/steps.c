@@ -25,6 +25,32 @@ static void asked(size_t place, size_t low, size_t high) {
     exit(1);
 }
 
+/* A state as large as the proved one, and what a step hands back. */
+typedef struct {
+    size_t numbers[6], stretches[5][3], supplied;
+    uint8_t due;
+} state;
+typedef struct {
+    state next;
+    size_t answer[3];
+} stepped;
+
+/* The least that a call by value can do: it is handed a state, passes over the nodes, and hands the state back. */
+__attribute__((noinline)) static stepped bare(state s, READ, uint8_t byte) {
+    stepped r = {.next = s};
+    uint64_t sum = byte + parent_len + label_len + token_len + first_len + next_len;
+    for (size_t v = 0; v < s.numbers[0]; v++) sum = sum * 31 + parent[v] + label[v] + token[v] + first[v] + next[v];
+    r.next.numbers[5] += 1;
+    r.answer[0] = sum;
+    return r;
+}
+
+static void bare_call(void) {
+    state s = {.numbers = {nodes, IMAGE, size, size}};
+    stepped r = bare(s, LENT, 0);
+    sink = r.answer[0] + r.next.numbers[5];
+}
+
 /* The first step looks at the place before the boundary. */
 static void look(void) { asked(timed_carry(LENT, IMAGE, size, nodes), size - 1, size); }
 
@@ -39,19 +65,19 @@ static void late(void) { asked(timed_supply(LENT, IMAGE, size, nodes, size, size
 
 int main(void) {
     static const size_t cases[][2] = {{1, 5}, {16, 64}, {128, 8}, {16, 1024}, {256, 64}};
-    static void (*const runs[])(void) = {pass_tables, test_tables, look, match, miss, late};
-    printf("%-12s %7s %12s %17s %17s %17s %17s %17s\n", "book", "nodes", "pass", "test/pass", "look/pass", "match/pass", "miss/pass",
-           "late miss/pass");
+    static void (*const runs[])(void) = {pass_tables, bare_call, test_tables, look, match, miss, late};
+    printf("%-12s %7s %12s %17s %17s %17s %17s %17s %17s\n", "book", "nodes", "pass", "bare call/pass", "test/pass", "look/pass",
+           "match/pass", "miss/pass", "late miss/pass");
     for (size_t i = 0; i < sizeof cases / sizeof *cases; i++) {
-        double took[6];
+        double took[7];
         size = cases[i][1];
         make_book(cases[i][0], size);
         build_tables();
         stray_first = stray(0);
         stray_last = stray(size - 1);
-        least(runs, took, 6);
+        least(runs, took, 7);
         printf("%4zu x %-5zu %7zu %9.3f us", cases[i][0], size, nodes, took[0] * 1e6);
-        for (size_t j = 1; j < 6; j++) printf(" %9.3f us %4.1f", took[j] * 1e6, took[j] / took[0]);
+        for (size_t j = 1; j < 7; j++) printf(" %9.3f us %4.1f", took[j] * 1e6, took[j] / took[0]);
         printf("\n");
     }
     return 0;
