@@ -5,7 +5,14 @@
  *  - each pointer has as many entries as its length says, and is aligned as its type asks;
  *  - the tables and hit buffers do not overlap each other, the book or the image;
  *  - no other thread changes them during the call.
- * A call needs about 70 KB of stack.
+ * lonnatchi_sweep needs about 200 KB of stack, lonnatchi_build a few KB.
+ *
+ * Parameters, each with its length beside it, counted in entries and not in bytes:
+ *   book                                        the revocation book's bytes, its closing 00h included; read only
+ *   image                                       the machine's memory; read only
+ *   parent, label, token, first_child, next_sibling   the five tables, one entry a node. 1 + the book's body bytes are enough, and
+ *                                               16,385 for any book; the lengths may differ
+ *   ends, tokens                                the hit buffers; any lengths, also 0, and they may differ
  *
  * A refusal is a number with a value; 0 means none, with value 0. On a refusal the numbers after the value are 0.
  *
