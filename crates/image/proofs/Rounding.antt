@@ -3,7 +3,7 @@ use Prim.Native.Nat.{ℕ, suc, _+_, _^_, _≤_, _<_}
 use native.Mathlib.Omega.{arith}
 use mathlib.Core.Path.{_≡_, refl, ap, sym, subst, _∙_}
 use mathlib.Core.Bool.{false}
-use mathlib.Core.List.{List, [], _++_, map, append-nil}
+use mathlib.Core.List.{List, _++_, map}
 use mathlib.Core.Option.{Option, some, none}
 use lib.ListN.{length}
 use Rattle.rules.specs.Rules.{Tree}
@@ -13,7 +13,7 @@ use Rattle.trie.specs.Tables.{Tables}
 use Rattle.trie.specs.Answers.{tables}
 use Rattle.image.specs.declared.walk.Arrival.{Arrival}
 use Rattle.image.specs.Rounds.{reached, met}
-use Rattle.image.specs.Rule5.{tokensOf, closingOf, BySkip}
+use Rattle.image.specs.Rule5.{tokensOf, closingOf}
 use Rattle.image.specs.Walk.{treeIn, Walkable, stopOf, arrivalOf, notes}
 use Rattle.image.specs.Sweeping.{Given, Standing, Stands, Known, Begun}
 use Rattle.image.specs.Laws.Round.{unmet-none}

@@ -4,8 +4,7 @@ use native.Mathlib.Omega.{arith}
 use mathlib.Core.Path.{_≡_, refl, ap, sym, subst, _∙_}
 use mathlib.Core.List.{List, []}
 use mathlib.Core.Option.{some}
-use lib.ListN.{length, getD}
-use Rattle.rules.specs.Tokens.{shortestOf}
+use lib.ListN.{getD}
 use Rattle.rules.specs.Laws.Tests.{split}
 use Rattle.rules.specs.Laws.Exact.Shift.{shift-upto}
 use Rattle.book.specs.Book.{maxImage, maxBody}

@@ -1,13 +1,13 @@
 -- Rule 5 straight from the records of a book, and caches of it: an entry is 0 or right.
-use Prim.Native.Nat.{ℕ, _+_, _*_, _≤_, _<_}
+use Prim.Native.Nat.{ℕ, _+_, _*_, _<_}
 use mathlib.Core.Path.{_≡_}
-use mathlib.Core.Bool.{Bool, false}
+use mathlib.Core.Bool.{false}
 use mathlib.Core.List.{List, [], _∷_}
 use mathlib.Core.Option.{Option, some, none}
 use lib.ListN.{length, getD}
 use Rattle.rules.specs.Lists.{any}
 use Rattle.rules.specs.Tokens.{ends, nodeShift, byteShift, shiftOf, shortestOf}
-use Rattle.book.specs.Book.{Reading, accepted, refused, readBook, maxBody}
+use Rattle.book.specs.Book.{Reading, accepted, refused, readBook}
 use Rattle.trie.specs.Tables.{nodes}
 use Rattle.image.specs.declared.walk.Stop.{Stop}
 use Rattle.image.specs.declared.walk.Stop.the-variants.{Byte, Nothing}

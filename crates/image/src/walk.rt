@@ -56,7 +56,7 @@ pub fn root_children(label: &[u8], first: &[u16], next: &[u16], count: usize) ->
 }
 
 // Rules 2 and 3 in a round at boundary b: as far down as the image's bytes lead.
-pub fn descend(
+fn descend(
     image: &[u8],
     label: &[u8],
     token: &[u16],
@@ -125,7 +125,7 @@ fn put(ends: &mut [u32], tokens: &mut [u32], i: usize, end: usize, number: usize
 }
 
 // Rule 3: the hits of a round at boundary b, put into the buffers behind the `hits` before them. Answers how many there are then.
-pub fn mark(
+fn mark(
     image: &[u8],
     label: &[u8],
     token: &[u16],

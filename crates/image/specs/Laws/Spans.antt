@@ -1,7 +1,6 @@
 -- A stretch's places alone say what is loose and what is remembered; there are few stretches, and each lies before the boundary.
 use Prim.Native.Nat.{ℕ, _+_, _-_, _*_, _^_, _≤_, _<_, max}
 use native.Mathlib.Omega.{arith}
-use native.Mathlib.Nat.{pow-le-pow-right, lt-of-not-le}
 use mathlib.Core.Path.{_≡_, refl, ap, sym, _∙_}
 use mathlib.Core.List.{List, [], _∷_, _++_}
 use borrow.Author.Tests.{lt-leb}
@@ -12,15 +11,9 @@ use Rattle.rules.specs.Rules.{Tree, Stretch, Config, leftOver, cut, kept, ended
 use Rattle.rules.specs.Laws.All.{All}
 use Rattle.rules.specs.Laws.Image.{stretches-append, stretches-length, stretches-filter, stretches-cut}
 use Rattle.rules.specs.Laws.Limit.Count.{loose}
-use Rattle.rules.specs.Laws.Limit.Span.{Spans, short}
+use Rattle.rules.specs.Laws.Limit.Span.{four-few, Spans, short}
 use Rattle.image.specs.declared.spans.Spans as declared
 use Rattle.image.specs.Spans.{Places, placesOf, inUse, renewed, Before}
-
--- Powers of 4 up to 1,024.
-four-few : (k : ℕ) → 4 ^ k ≤ 1024 → k ≤ 5
-four-few k h =
-    let l : k < 6 = lt-of-not-le (λ i. omega (arith, pow-le-pow-right {n = 4} (omega arith) {i = 6} {j = k} i)) in
-    omega arith
 
 module _ {E : Type 0} where
   abbrev bare : E → Unit {0}

@@ -3,13 +3,12 @@ use Prim.Native.Nat.{ℕ, suc, _+_, _-_, _*_, _≤_, _<_, _^_}
 use native.Mathlib.Omega.{arith}
 use native.Mathlib.Nat.{mul-le-mul}
 use mathlib.Core.Path.{_≡_, refl, ap, sym, subst, _∙_}
-use mathlib.Core.List.{List, [], _∷_, _++_}
+use mathlib.Core.List.{List, [], _∷_, _++_, append-nil}
 use mathlib.Core.Bool.{false}
 use lib.ListN.{length, take, drop, length-append}
 use Rattle.rules.specs.Rules.{Stretch}
 use Rattle.rules.specs.Tokens.{ofTokens, shiftOf, shortestOf, longestOf}
 use Rattle.rules.specs.Sweep.{happens}
-use Rattle.rules.specs.Laws.All.{All}
 use Rattle.rules.specs.Laws.Limit.Count.{loose}
 use Rattle.rules.specs.Laws.Exact.Shift.{shift-ge, shift-upto}
 use Rattle.book.specs.Book.{readBook, accepted, maxImage, maxBody}
@@ -17,15 +16,11 @@ use Rattle.rules.specs.Laws.Lengths.{shortest-is}
 use Rattle.book.specs.Laws.Accepted.{accepted-setting, accepted-longest, accepted-some, accepted-fit}
 use Rattle.image.specs.Image.{hitsOf, fetchesOf}
 use Rattle.image.specs.Rounds.{Reached, reached, met, lowest}
-use Rattle.image.specs.Spans.{Places, placesOf, inUse, renewed, Before, Fits}
+use Rattle.image.specs.Spans.{placesOf, inUse, renewed, Fits}
 use Rattle.image.specs.Rule5.{tokensOf}
 use Rattle.image.specs.Sweeping.{Standing, Stands}
-use Rattle.image.specs.Laws.Round.{Starts, Round, fetchesFrom, hitsFrom, ending, raise, afterwards, round, first-starts, none-fetched, none-found, fetches-few, hits-few}
+use Rattle.image.specs.Laws.Round.{Round, fetchesFrom, afterwards, round, first-starts, none-fetched, none-found, fetches-few, hits-few}
 use Rattle.image.specs.Laws.Spans.{loose-places, ended-places, spans-fit, spans-few}
-
-append-bare : {A : Type 0} (l : List A) → l ++ [] ≡ l
-append-bare [] = refl
-append-bare (x ∷ l) = cc (append-bare l)
 
 append-assoc : {A : Type 0} (l m n : List A) → (l ++ m) ++ n ≡ l ++ (m ++ n)
 append-assoc [] m n = refl
@@ -88,7 +83,7 @@ module _ (book image : List ℕ) where
     pub all-found : length image < at .boundary → found ≡ hitsOf ts image
     all-found h =
         let setting = accepted-setting book ts (s .read) in
-        sym (append-bare found)
+        sym (append-nil found)
         ∙ ap (λ l. found ++ l) (sym (none-found ts S D setting image (at .boundary) (s .stretches) (s .fuel) (s .count) h))
         ∙ s .finds
 

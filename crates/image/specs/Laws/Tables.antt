@@ -9,10 +9,10 @@ use lib.Dec.{eqb, ltb}
 use lib.ListN.{length, getD}
 use Rattle.rules.specs.Lists.{any, numberFrom}
 use Rattle.rules.specs.Rules.{Tree}
-use Rattle.rules.specs.Tokens.{ofTokens, ends, grown}
+use Rattle.rules.specs.Tokens.{ofTokens, ends}
 use Rattle.rules.specs.Laws.Endings.{Numbered, numbered}
 use Rattle.book.specs.Laws.Accepted.{Fit}
-use Rattle.trie.specs.Tables.{Tables, nodes}
+use Rattle.trie.specs.Tables.{Tables}
 use Rattle.trie.specs.Walks.{along, childBy, ending}
 use Rattle.trie.specs.Answers.{tables}
 use Rattle.trie.specs.Laws.Nodes.{Stand}

@@ -1,7 +1,6 @@
 -- `ahead` meets its contract: a standing that is left as it is finds nothing.
 use native.Mathlib.Omega.{arith}
 use mathlib.Core.Path.{sym, subst}
-use borrow.Author.Needs.{needs}
 use Rattle.image.specs.Sweeping.{Skimmable, Skimmed}
 use Rattle.image.proofs.Skimming.{lead-none}
 use Rattle.image.proofs.skim.ahead.Statement.{statement}

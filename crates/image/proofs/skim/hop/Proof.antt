@@ -1,8 +1,7 @@
 -- `hop` meets its contract: by the cache of first bytes, by that of pairs, or nowhere.
 use Prim.Native.Nat.{_+_}
 use native.Mathlib.Omega.{arith}
-use mathlib.Core.Path.{_≡_, refl}
-use borrow.Author.Needs.{needs}
+use mathlib.Core.Path.{refl}
 use Rattle.image.proofs.Skimming.{Skimming, lead-none, lead-on, lead-one, lead-two, skimming, skimmable-on}
 use Rattle.image.proofs.skim.hop.Statement.{statement}
 use Rattle.image.proofs.skim.hop.Tie as tie

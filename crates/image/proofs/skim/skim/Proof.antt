@@ -1,7 +1,6 @@
 -- `skim` meets its contract: the rounds up to the boundary were skimmed; the bytes left of the image get fewer.
 use Prim.Native.Nat.{_+_, _-_}
 use native.Mathlib.Omega.{arith}
-use borrow.Author.Needs.{needs}
 use lib.ListN.{length}
 use Rattle.image.proofs.Skimming.{Skimming, lead-on, skimming, skimming-begins, skimming-done, skimmable-on}
 use Rattle.image.proofs.skim.skim.Statement.{statement}

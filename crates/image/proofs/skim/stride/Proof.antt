@@ -1,9 +1,8 @@
 -- `stride` meets its contract: the rounds up to the boundary were skimmed; the bytes left of the image get fewer.
-use Prim.Native.Nat.{_+_, _-_, _*_}
+use Prim.Native.Nat.{_+_, _-_}
 use native.Mathlib.Omega.{arith}
-use borrow.Author.Needs.{needs}
 use lib.ListN.{length}
-use Rattle.image.proofs.Skimming.{Skimming, lead-on, lead-four, skimming, skimming-begins, skimming-done, skimmable-on, short-some, cached-upto}
+use Rattle.image.proofs.Skimming.{Skimming, lead-on, lead-four, skimming, skimming-begins, skimming-done, short-some, cached-upto}
 use Rattle.image.proofs.skim.stride.Statement.{statement}
 use Rattle.image.proofs.skim.stride.Tie as tie
 
