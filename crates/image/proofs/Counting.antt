@@ -5,9 +5,10 @@ use mathlib.Core.Path.{_≡_, ap, sym, subst, _∙_}
 use mathlib.Core.List.{_∷_}
 use lib.ListN.{length}
 use Rattle.rules.specs.Laws.All.{All}
+use Rattle.rules.specs.Laws.Remember.{Lies}
 use Rattle.rules.specs.Laws.Limit.Count.{loose}
 use Rattle.image.specs.declared.spans.Spans.{Spans}
-use Rattle.image.specs.Spans.{placed, inUse, Before, Fits}
+use Rattle.image.specs.Spans.{placed, inUse, Fits}
 use Rattle.image.proofs.Using.{spanAt, restFrom, more, past}
 
 -- n places were counted up to `from`, and the stretches from i on are left.
@@ -15,7 +16,7 @@ pub record Counting (f : Spans) (q b from n i : ℕ) : Type 0 where
   pub upto : i ≤ f .used
   pub counted : n + q ≤ from
   pub inside : from ≤ b
-  pub each : All (Before b) (restFrom f i)
+  pub each : All (Lies b) (restFrom f i)
   pub rest : n + loose b from (restFrom f i) ≡ loose b q (inUse f)
 
 pub counting-begins : (f : Spans) (q b : ℕ) → q ≤ b → Fits b f → Counting f q b q 0 0
@@ -26,10 +27,10 @@ module _ {f : Spans} {q b from n i : ℕ} (size : length (f .spans) ≡ 5) (c : 
   counting-done h = sym (ap (λ ss. n + loose b from ss) (past f size i h)) ∙ c .rest
 
   module _ (few : f .used ≤ 5) (h : i < f .used) where
-    each-lies : All (Before b) (placed (spanAt f i) ∷ restFrom f (i + 1))
-    each-lies = subst (All (Before b)) (more f size i few h) (c .each)
+    each-lies : All (Lies b) (placed (spanAt f i) ∷ restFrom f (i + 1))
+    each-lies = subst (All (Lies b)) (more f size i few h) (c .each)
 
-    pub counting-here : Before b (placed (spanAt f i))
+    pub counting-here : Lies b (placed (spanAt f i))
     counting-here = each-lies .0
 
     pub counting-again : (from′ n′ : ℕ) → n′ ≡ n + (spanAt f i .left - from) → from′ ≡ max from (spanAt f i .right)

@@ -2,7 +2,6 @@
 -- rule 5 (Passing, Keeping), rounds (Skimming to Looping), the whole call (Starting, Answering).
 mod Using
 mod Counting
-mod Cutting
 mod Sifting
 mod Children
 mod Steps

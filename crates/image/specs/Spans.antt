@@ -1,10 +1,11 @@
 -- Remembered stretches in an image at hand: their bytes are the image's, so only their places are kept.
-use Prim.Native.Nat.{ℕ, _^_, _≤_, _<_}
+use Prim.Native.Nat.{ℕ, _≤_}
 use mathlib.Core.List.{List, [], _∷_, _++_, map}
 use lib.ListN.{take}
 use Rattle.rules.specs.Lists.{filter}
 use Rattle.rules.specs.Rules.{Stretch, leftOver, cut, kept}
 use Rattle.rules.specs.Laws.All.{All}
+use Rattle.rules.specs.Laws.Remember.{Lies}
 use Rattle.rules.specs.Laws.Image.{stretchesOf}
 use Rattle.image.specs.declared.spans.Span.{Span}
 use Rattle.image.specs.declared.spans.Spans.{Spans}
@@ -23,22 +24,12 @@ placed s = record { left = s .left; right = s .right; node = tt }
 abbrev pub inUse : Spans → List Places
 inUse f = map placed (take (f .used) (f .spans))
 
--- Rules 4 and 6: the stretches that are left over, and kept.
-abbrev pub staying : ℕ → ℕ → List Places → List Places
-staying from next ss = filter (kept next) (leftOver from ss)
-
 -- Rules 4 and 6: what is remembered after a round that matched from place `from` up to b, when the boundary moves to `next`.
 abbrev pub renewed : ℕ → ℕ → ℕ → List Places → List Places
 renewed from b next ss =
     filter (kept next) (leftOver from ss ++ (record { left = cut from (leftOver from ss); right = b; node = tt } ∷ []))
 
--- A stretch lies before b, of which four times as much can be counted.
-pub record Before (b : ℕ) (s : Places) : Type 0 where
-  pub some-length : s .left ≤ s .right
-  pub inside : s .right ≤ b
-  pub small : b < 2 ^ 32
-
 -- What the code asks of remembered stretches at boundary b.
 pub record Fits (b : ℕ) (f : Spans) : Type 0 where
   pub few : f .used ≤ 5
-  pub each : All (Before b) (inUse f)
+  pub each : All (Lies b) (inUse f)

@@ -5,7 +5,8 @@ ghost use mathlib.Core.List.{[], _∷_, _++_};
 ghost use lib.ListN.{length};
 ghost use Rattle.rules.specs.Rules.{leftOver, cut, kept};
 ghost use Rattle.rules.specs.Laws.Limit.Count.{loose};
-ghost use Rattle.image.specs.Spans.{placed, inUse, staying, renewed, Before, Fits};
+ghost use Rattle.rules.specs.Laws.Remember.{Lies, staying};
+ghost use Rattle.image.specs.Spans.{placed, inUse, renewed, Fits};
 
 // A stretch: the places from left up to right, right not included.
 pub struct Span {
@@ -53,7 +54,7 @@ pub fn loose(f: Spans, q: usize, b: usize) -> usize
 
 // Rule 6: a stretch is kept at boundary b.
 fn keeps(b: usize, s: Span) -> bool
-    requires { ⌜ Before b (placed s) ⌝ }
+    requires { ⌜ Lies b (placed s) ⌝ }
     ensures { λ r. ⌜ r ≡ kept b (placed s) ⌝ }
 {
     4 * (b - s.right) <= s.right - s.left
@@ -93,7 +94,7 @@ fn edge(f: Spans, from: usize) -> usize
 // Rules 4 and 6: the stretches with one more, if it is left over and kept.
 fn sift(from: usize, next: usize, f: Spans, s: Span) -> Spans
     requires room { ⌜ f .used < 5 ⌝ }
-    requires before { ⌜ Before next (placed s) ⌝ }
+    requires lies { ⌜ Lies next (placed s) ⌝ }
     ensures { λ r. ⌜ (inUse r ≡ inUse f ++ staying from next (placed s ∷ [])) × (r .used ≤ f .used + 1) ⌝ }
 {
     if from <= s.left {

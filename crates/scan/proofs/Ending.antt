@@ -1,39 +1,21 @@
 -- The end of a round: the new stretch behind those that stay.
 use Prim.Native.Nat.{ℕ, _-_, _≤_}
 use native.Mathlib.Omega.{arith}
-use mathlib.Core.Path.{_≡_, refl, ap, sym, _∙_}
+use mathlib.Core.Path.{_≡_, ap, sym, _∙_}
 use mathlib.Core.Bool.{Bool, true, false}
 use mathlib.Core.List.{List, [], _∷_, _++_, append-nil}
-use lib.Dec.{ltb}
 use Rattle.rules.specs.Lists.{filter}
 use Rattle.rules.specs.Rules.{Stretch, leftOver, cut, kept}
-use Rattle.rules.specs.Laws.Tests.{decide}
-use Rattle.rules.specs.Laws.All.{All, all-map}
+use Rattle.rules.specs.Laws.All.{All, filter-append}
+use Rattle.rules.specs.Laws.Remember.{Lies, staying, edge-upto}
 use Rattle.rules.specs.Laws.Limit.Span.{cut-ge}
 use Rattle.trie.specs.Walks.{depth, lifted}
 use Rattle.scan.specs.declared.Stretch.{Stretch as Slot}
 use Rattle.scan.specs.declared.stretches.Filled.{Filled}
 use Rattle.scan.specs.State.{slotOf, laid, maxStretches}
 use Rattle.scan.specs.Ways.{paths}
-use Rattle.scan.specs.Memory.{Lies, putIn, staying, filledWith, Ends, rememberBy}
+use Rattle.scan.specs.Memory.{putIn, filledWith, Ends, rememberBy}
 use Rattle.scan.proofs.Sifting.{laid-full, put-filled}
-
-filter-append : {A : Type 0} (p : A → Bool) (l m : List A) → filter p (l ++ m) ≡ filter p l ++ filter p m
-filter-append p [] m = refl
-filter-append {A} p (a ∷ l) m = go (p a) (filter-append p l m)
-  where
-    go : (x : Bool) → filter p (l ++ m) ≡ filter p l ++ filter p m
-        → elim x [ true ↦ a ∷ filter p (l ++ m) | false ↦ filter p (l ++ m) ]
-        ≡ (_++_ {A = A} (elim x [ true ↦ a ∷ filter p l | false ↦ filter p l ]) (filter p m))
-    go true e = ap (λ l. a ∷ l) e
-    go false e = e
-
--- The edge of stretches that lie before b does so too.
-pub cut-before : (b from : ℕ) (ms : List (Stretch ℕ)) → from ≤ b → All (Lies b) ms → cut from (leftOver from ms) ≤ b
-cut-before b from [] h a = h
-cut-before b from (m ∷ ms) h a =
-    let i = cut-before b from ms h (a .1) in
-    decide (λ r. cut from r ≤ b) (ltb (m .left) from) _ _ (λ _. omega (arith, a .0 .before)) (λ _. i)
 
 module _ (parent : List ℕ) (ms : List (Stretch ℕ)) (node d b next : ℕ) (ends : Ends parent node d b next) (lie : All (Lies b) ms) where
   abbrev begin : ℕ
@@ -42,16 +24,8 @@ module _ (parent : List ℕ) (ms : List (Stretch ℕ)) (node d b next : ℕ) (en
   abbrev stretch : ℕ → ℕ → Stretch ℕ
   stretch l v = record { left = l; right = b; node = v }
 
-  pub lie-later : All (Lies next) ms
-  lie-later =
-      all-map (Lies b) (Lies next) (λ m l. record {
-        some-length = l .some-length;
-        before = omega (arith, l .before, ends .moves);
-        small = ends .small;
-      }) ms lie
-
   edge-before : cut begin (leftOver begin ms) ≤ b
-  edge-before = cut-before b begin ms (omega arith) lie
+  edge-before = edge-upto b next (ends .moves) (ends .small) ms lie begin (omega arith)
 
   module _ (left : ℕ) (e : left ≡ cut begin (leftOver begin ms)) where
     pub edge-from : begin ≤ left
@@ -60,9 +34,6 @@ module _ (parent : List ℕ) (ms : List (Stretch ℕ)) (node d b next : ℕ) (en
     module _ (up : ℕ) (q : up ≡ lifted (paths parent []) (left - begin) node) where
       abbrev new : Stretch ℕ
       new = stretch left up
-
-      pub new-lies : Lies next new
-      new-lies = record { some-length = omega (arith, e, edge-before); before = ends .moves; small = ends .small }
 
       abbrev laid-with : Bool → List Slot
       laid-with x = laid maxStretches (staying begin next ms ++ elim x [ true ↦ new ∷ [] | false ↦ [] ])

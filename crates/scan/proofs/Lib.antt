@@ -2,7 +2,6 @@
 pub mod Climbing
 pub mod Lowering
 pub mod Recalling
-pub mod Cutting
 pub mod Sifting
 pub mod Ending
 pub mod Depths

@@ -7,13 +7,13 @@ use mathlib.Core.List.{List, [], _∷_, _++_, append-nil, append-assoc}
 use borrow.Author.Tests.{lt-ltb, le-ltb}
 use lib.Dec.{ltb}
 use lib.ListN.{length, set, length-append}
-use Rattle.rules.specs.Lists.{filter}
-use Rattle.rules.specs.Rules.{Stretch, leftOver, kept}
+use Rattle.rules.specs.Rules.{Stretch, kept}
 use Rattle.rules.specs.Laws.All.{All}
+use Rattle.rules.specs.Laws.Remember.{Lies, stays, staying, staying-one, Stay, stay-done, stay-again}
 use Rattle.scan.specs.declared.Stretch.{Stretch as Slot}
 use Rattle.scan.specs.declared.stretches.Filled.{Filled}
 use Rattle.scan.specs.State.{stretchOf, slotOf, inUse, used, laid, maxStretches}
-use Rattle.scan.specs.Memory.{Lies, putIn, siftIn, stays, staying, filledWith}
+use Rattle.scan.specs.Memory.{putIn, siftIn, filledWith}
 use Rattle.scan.proofs.Recalling.{slotAt, restFrom, more}
 
 -- A stretch is laid behind others, or does not fit any more.
@@ -32,17 +32,6 @@ pub put-filled : (ms : List (Stretch ℕ)) (m : Stretch ℕ) → putIn (filledWi
 put-filled ms m =
     let n : length ms + 1 ≡ length (ms ++ (m ∷ [])) = rw length-append in
     cc (laid-put maxStretches ms m)
-
--- The stretches that stay, one after the other.
-staying-more : (from b : ℕ) (m : Stretch ℕ) (ms : List (Stretch ℕ))
-    → staying from b (m ∷ ms) ≡ elim (stays from b m) [ true ↦ m ∷ staying from b ms | false ↦ staying from b ms ]
-staying-more from b m ms = go (ltb (m .left) from) (kept b m) refl
-  where
-    go : (x y : Bool) → kept b m ≡ y
-        → filter (kept {E = ℕ} b) (elim x [ true ↦ m ∷ leftOver from ms | false ↦ leftOver from ms ])
-        ≡ elim (x && y) [ true ↦ m ∷ staying from b ms | false ↦ staying from b ms ]
-    go true y e = ap (λ y. elim y [ true ↦ m ∷ staying from b ms | false ↦ staying from b ms ]) e
-    go false y e = refl
 
 -- A stretch is left over or not, and kept or not.
 module _ (from b : ℕ) (f : Filled) (s : Slot) where
@@ -65,12 +54,11 @@ pub record Sifting (slots : List Slot) (from b : ℕ) (f : Filled) (i : ℕ) : T
   pub lies : All (Lies b) (restFrom slots i)
   pub held : List (Stretch ℕ)
   pub is : f ≡ filledWith held
-  pub rest : held ++ staying from b (restFrom slots i) ≡ staying from b (used slots)
+  pub stay : Stay from b (used slots) held (restFrom slots i)
 
 module _ {slots : List Slot} {from b : ℕ} {f : Filled} {i : ℕ} (s : Sifting slots from b f i) where
   pub sifting-done : restFrom slots i ≡ [] → f ≡ filledWith (staying from b (used slots))
-  sifting-done e =
-      s .is ∙ ap filledWith (sym (append-nil (s .held)) ∙ sym (ap (λ ms. s .held ++ staying from b ms) e) ∙ s .rest)
+  sifting-done e = s .is ∙ ap filledWith (stay-done (rw e at (s .stay)))
 
   module _ (size : length slots ≡ 5) (h : i < 5) (here : inUse (slotAt slots i) ≡ true) where
     abbrev m : Stretch ℕ
@@ -84,26 +72,17 @@ module _ {slots : List Slot} {from b : ℕ} {f : Filled} {i : ℕ} (s : Sifting 
 
     pub sifting-again : (g : Filled) → g ≡ siftIn (stays from b m) f (slotAt slots i) → Sifting slots from b g (i + 1)
     sifting-again g e =
-        let rest = sym (ap (λ ms. s .held ++ ms) (ap (staying from b) (more slots size i h here) ∙ staying-more from b m (restFrom slots (i + 1)))) ∙ s .rest in
-        go (stays from b m) g e rest
+        let r = go (stays from b m) (e ∙ ap (λ f. siftIn (stays from b m) f (slotAt slots i)) (s .is)) in
+        record {
+          upto = omega arith;
+          few = omega (arith, r .1, ap (λ f. f .n) (s .is), s .few);
+          lies = all-lie .1;
+          held = s .held ++ staying from b (m ∷ []);
+          is = r .0 ∙ ap (λ l. filledWith (s .held ++ l)) (sym (staying-one from b m));
+          stay = stay-again (rw (more slots size i h here) at (s .stay)) _ refl;
+        }
       where
-        go : (x : Bool) (g : Filled) → g ≡ siftIn x f (slotAt slots i)
-            → s .held ++ elim x [ true ↦ m ∷ staying from b (restFrom slots (i + 1)) | false ↦ staying from b (restFrom slots (i + 1)) ]
-            ≡ staying from b (used slots)
-            → Sifting slots from b g (i + 1)
-        go true g e t = record {
-          upto = omega arith;
-          few = omega (arith, ap (λ f. f .n) e, s .few);
-          lies = all-lie .1;
-          held = s .held ++ (m ∷ []);
-          is = e ∙ ap (λ f. putIn f (slotAt slots i)) (s .is) ∙ put-filled (s .held) m;
-          rest = append-assoc (s .held) (m ∷ []) _ ∙ t;
-        }
-        go false g e t = record {
-          upto = omega arith;
-          few = omega (arith, ap (λ f. f .n) e, s .few);
-          lies = all-lie .1;
-          held = s .held;
-          is = e ∙ s .is;
-          rest = t;
-        }
+        go : (x : Bool) → g ≡ siftIn x (filledWith (s .held)) (slotAt slots i)
+            → (g ≡ filledWith (s .held ++ elim x [ true ↦ m ∷ [] | false ↦ [] ])) × (g .n ≤ length (s .held) + 1)
+        go true e = (e ∙ put-filled (s .held) m, omega (arith, ap (λ f. f .n) e))
+        go false e = (e ∙ ap filledWith (sym (append-nil (s .held))), omega (arith, ap (λ f. f .n) e))

@@ -9,6 +9,7 @@ use Rattle.rules.specs.Lists.{filter}
 use Rattle.rules.specs.Rules.{hitAt, kept, ended, endRound, taken, take}
 use Rattle.rules.specs.Tokens.{shiftOf}
 use Rattle.rules.specs.Laws.All.{All}
+use Rattle.rules.specs.Laws.Remember.{Lies}
 use Rattle.rules.specs.Laws.Exact.Shift.{shift-upto}
 use Rattle.trie.specs.Tables.{Tables}
 use Rattle.trie.specs.Walks.{childBy, ending, words}
@@ -24,7 +25,7 @@ use Rattle.scan.specs.declared.steps.Taken.{Taken}
 use Rattle.scan.specs.State.{configOf, treeOf, used, laid, maxStretches}
 use Rattle.scan.specs.Calls.{moved, hitIn}
 use Rattle.scan.specs.Ways.{Readable, Climbs}
-use Rattle.scan.specs.Memory.{Lies, Ends, rememberBy}
+use Rattle.scan.specs.Memory.{Ends, rememberBy}
 use Rattle.scan.specs.Steps.{Steady, Ending, foundOf, takenBy}
 use Rattle.scan.specs.Laws.Slots.{slots-laid, slots-five}
 use Rattle.scan.specs.Laws.Ways.{unbroken-readable}

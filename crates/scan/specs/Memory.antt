@@ -1,5 +1,5 @@
 -- What the code asks of remembered stretches, and what it finds there, over the tables that it climbs.
-use Prim.Native.Nat.{ℕ, _+_, _^_, _≤_, _<_, max}
+use Prim.Native.Nat.{ℕ, _+_, _^_, _≤_, _<_}
 use mathlib.Core.Bool.{Bool, true, false, _&&_}
 use mathlib.Core.Path.{_≡_}
 use mathlib.Core.List.{List, []}
@@ -7,7 +7,7 @@ use mathlib.Core.Option.{Option, some, none}
 use lib.Dec.{leb, ltb}
 use lib.ListN.{length, set}
 use Rattle.rules.specs.Lists.{filter}
-use Rattle.rules.specs.Rules.{Stretch, leftOver, kept, recall, ended}
+use Rattle.rules.specs.Rules.{Stretch, kept, recall, ended}
 use Rattle.rules.specs.Laws.All.{All}
 use Rattle.trie.specs.Walks.{depth, ofTables}
 use Rattle.scan.specs.declared.Stretch.{Stretch as Slot}
@@ -38,29 +38,12 @@ pub record Remembers (parent label : List ℕ) (ms : List (Stretch ℕ)) : Type 
   pub labels : count ≤ length label
   pub fits : All (Fits (paths parent label) count) ms
 
--- Rule 4: an edge, or the right edge of a stretch that is left over and reaches farther.
-abbrev pub fartherOf : ℕ → ℕ → Stretch ℕ → ℕ
-fartherOf from edge m = elim (ltb (m .left) from) [ true ↦ max edge (m .right) | false ↦ edge ]
-
--- A stretch lies before b, of which four times as much can be counted.
-pub record Lies (b : ℕ) (m : Stretch ℕ) : Type 0 where
-  pub some-length : m .left ≤ m .right
-  pub before : m .right ≤ b
-  pub small : b < 2 ^ 32
-
 -- Slots with a stretch more.
 abbrev pub putIn : Filled → Slot → Filled
 putIn f s = record { slots = set (f .slots) (f .n) s; n = f .n + 1 }
 
 abbrev pub siftIn : Bool → Filled → Slot → Filled
 siftIn b f s = elim b [ true ↦ putIn f s | false ↦ f ]
-
--- Rules 4 and 6: a stretch is left over, and kept at b; and those that are.
-abbrev pub stays : ℕ → ℕ → Stretch ℕ → Bool
-stays from b m = ltb (m .left) from && kept b m
-
-abbrev pub staying : ℕ → ℕ → List (Stretch ℕ) → List (Stretch ℕ)
-staying from b ms = filter (kept b) (leftOver from ms)
 
 -- Slots that hold just these stretches.
 abbrev pub filledWith : List (Stretch ℕ) → Filled

@@ -5,9 +5,10 @@ ghost use mathlib.Core.Path.{_≡_};
 ghost use lib.ListN.{length};
 ghost use Rattle.rules.specs.Rules.{leftOver, cut, kept};
 ghost use Rattle.rules.specs.Laws.All.{All};
+ghost use Rattle.rules.specs.Laws.Remember.{Lies, fartherOf, stays, staying};
 ghost use Rattle.scan.specs.State.{stretchOf, inUse, used};
 ghost use Rattle.scan.specs.Ways.{Climbs};
-ghost use Rattle.scan.specs.Memory.{recalledOf, recallBy, Remembers, covering, fartherOf, Lies, putIn, stays, siftIn, staying, filledWith, Ends, rememberBy};
+ghost use Rattle.scan.specs.Memory.{recalledOf, recallBy, Remembers, covering, putIn, siftIn, filledWith, Ends, rememberBy};
 use crate::Stretch;
 use crate::spell;
 

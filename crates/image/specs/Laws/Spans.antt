@@ -9,11 +9,12 @@ use lib.ListN.{length}
 use Rattle.rules.specs.Lists.{filter}
 use Rattle.rules.specs.Rules.{Tree, Stretch, Config, leftOver, cut, kept, ended, shiftedBy}
 use Rattle.rules.specs.Laws.All.{All}
+use Rattle.rules.specs.Laws.Remember.{Lies}
 use Rattle.rules.specs.Laws.Image.{stretches-append, stretches-length, stretches-filter, stretches-cut}
 use Rattle.rules.specs.Laws.Limit.Count.{loose}
 use Rattle.rules.specs.Laws.Limit.Span.{four-few, Spans, short}
 use Rattle.image.specs.declared.spans.Spans as declared
-use Rattle.image.specs.Spans.{Places, placesOf, inUse, renewed, Before}
+use Rattle.image.specs.Spans.{Places, placesOf, inUse, renewed}
 
 module _ {E : Type 0} where
   abbrev bare : E → Unit {0}
@@ -40,10 +41,10 @@ module _ {E : Type 0} where
       ∙ ap (λ ss. filter (kept next) (ss ++ new (cut from ss))) over
 
   -- Each lies before the boundary, and they are five at most.
-  pub spans-fit : (D b lo : ℕ) (ss : List (Stretch E)) → b < 2 ^ 32 → Spans D b lo ss → All (Before b) (placesOf ss)
+  pub spans-fit : (D b lo : ℕ) (ss : List (Stretch E)) → b < 2 ^ 32 → Spans D b lo ss → All (Lies b) (placesOf ss)
   spans-fit D b lo [] h p = tt
   spans-fit D b lo (s ∷ ss) h p = (
-    record { some-length = omega (arith, p .1, p .3); inside = omega (arith, p .1); small = h },
+    record { some-length = omega (arith, p .1, p .3); before = omega (arith, p .1); small = h },
     spans-fit D b (s .right) ss h (p .4),
   )
 
@@ -69,7 +70,7 @@ module _ (f : declared.Spans) (none : f .used ≡ 0) where
   none-loose b q = ap (loose b q) bare-use
 
 -- What is loose is no more than there are places.
-pub loose-upto : (b q : ℕ) (ss : List Places) → q ≤ b → All (Before b) ss → loose b q ss ≤ b - q
+pub loose-upto : (b q : ℕ) (ss : List Places) → q ≤ b → All (Lies b) ss → loose b q ss ≤ b - q
 loose-upto b q [] h a = omega arith
 loose-upto b q (s ∷ ss) h a =
-    let l = a .0 in omega (arith, l .some-length, l .inside, loose-upto b (max q (s .right)) ss (omega (arith, l .inside)) (a .1))
+    let l = a .0 in omega (arith, l .some-length, l .before, loose-upto b (max q (s .right)) ss (omega (arith, l .before)) (a .1))

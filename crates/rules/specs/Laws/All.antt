@@ -1,7 +1,8 @@
 -- What holds of each element of a list, and of a list that was filtered.
 use Prim.Native.Nat.{suc, _≤_}
 use native.Mathlib.Omega.{arith}
-use mathlib.Core.Bool.{Bool}
+use mathlib.Core.Path.{_≡_, refl, ap}
+use mathlib.Core.Bool.{Bool, true, false}
 use mathlib.Core.List.{List, [], _∷_, _++_}
 use lib.ListN.{length}
 use Rattle.rules.specs.Lists.{filter}
@@ -23,6 +24,16 @@ module _ {ℓ} {A : Type ℓ} where
   pub all-filter : (P : A → Type 0) (p : A → Bool) (l : List A) → All P l → All P (filter p l)
   all-filter P p [] h = tt
   all-filter P p (a ∷ l) h = decide (All P) (p a) _ _ (λ _. (h .0, all-filter P p l (h .1))) (λ _. all-filter P p l (h .1))
+
+pub filter-append : {A : Type 0} (p : A → Bool) (l m : List A) → filter p (l ++ m) ≡ filter p l ++ filter p m
+filter-append p [] m = refl
+filter-append {A} p (a ∷ l) m = go (p a) (filter-append p l m)
+  where
+    go : (x : Bool) → filter p (l ++ m) ≡ filter p l ++ filter p m
+        → elim x [ true ↦ a ∷ filter p (l ++ m) | false ↦ filter p (l ++ m) ]
+        ≡ (_++_ {A = A} (elim x [ true ↦ a ∷ filter p l | false ↦ filter p l ]) (filter p m))
+    go true e = ap (λ l. a ∷ l) e
+    go false e = e
 
 pub length-filter : {A : Type 0} (p : A → Bool) (l : List A) → length (filter p l) ≤ length l
 length-filter p [] = omega arith

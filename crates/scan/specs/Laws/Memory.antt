@@ -11,13 +11,14 @@ use Rattle.rules.specs.Lists.{filter}
 use Rattle.rules.specs.Rules.{Stretch, Config, leftOver, cut, kept, recall, ended}
 use Rattle.rules.specs.Tokens.{shiftOf}
 use Rattle.rules.specs.Laws.All.{All, all-map}
+use Rattle.rules.specs.Laws.Remember.{Lies}
 use Rattle.rules.specs.Laws.Limit.Span.{Spans}
 use Rattle.trie.specs.Tables.{Tables}
 use Rattle.trie.specs.Walks.{ending, depth, lifted, words, ofTables}
 use Rattle.trie.specs.Answers.{tables}
 use Rattle.scan.specs.State.{laid, maxStretches}
 use Rattle.scan.specs.Ways.{paths, Climbs}
-use Rattle.scan.specs.Memory.{covering, recallBy, Remembers, Lies, Ends, rememberBy}
+use Rattle.scan.specs.Memory.{covering, recallBy, Remembers, Ends, rememberBy}
 use Rattle.scan.specs.Laws.Within.{Ready, Fits, Within}
 use Rattle.scan.specs.Laws.Ways.{lifted-alike, depth-alike, ending-alike, words-alike, unbroken-rises}
 

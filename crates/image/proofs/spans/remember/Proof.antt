@@ -4,8 +4,10 @@ use mathlib.Core.Path.{_≡_, sym, _∙_}
 use lib.ListN.{length}
 use borrow.Author.Needs.{needs}
 use borrow.Author.Tests.{not-true, not-false}
+use Rattle.rules.specs.Laws.Remember.{new-lies}
 use Rattle.image.proofs.Using.{sized}
-use Rattle.image.proofs.Sifting.{fits-later, new-before, ends-dropped, ends-put}
+use Rattle.image.specs.Spans.{inUse}
+use Rattle.image.proofs.Sifting.{fits-later, ends-dropped, ends-put}
 use Rattle.image.proofs.spans.remember.Statement.{statement}
 use Rattle.image.proofs.spans.remember.Tie as tie
 
@@ -21,7 +23,8 @@ keeps-requires : tie.Need-keeps-requires
 keeps-requires c κs = let s = c .before .before in
     let a = s .args in
     let e = c .before .edge in
-    new-before (a .f) (a .from) (a .b) (a .next) (s .pre .0) (s .pre .1 .0) (e .result) (e .ensures)
+    let n = s .pre .1 .0 in
+    new-lies (a .b) (a .next) (n .1) (n .2) (inUse (a .f)) (s .pre .0 .each) (a .from) (e .result) tt (n .0) (e .ensures)
 
 returns : tie.Need-returns
 returns c = let s = c .before .before .before .before in

@@ -12,7 +12,7 @@ use Rattle.rules.specs.Rules.{Stretch, Config, leftOver, cut, kept, reca
 use Rattle.rules.specs.Tokens.{ofTokens}
 use Rattle.rules.specs.Laws.Tests.{decide, and-l, and-r}
 use Rattle.rules.specs.Laws.All.{All, all-map, all-append, all-filter}
-use Rattle.rules.specs.Laws.Limit.Span.{cut-ge}
+use Rattle.rules.specs.Laws.Limit.Span.{cut-ge, cut-upto}
 use Rattle.rules.specs.Laws.Exact.Reads.{Reads, reads-drop}
 use Rattle.rules.specs.Laws.Exact.Shift.{Known}
 
@@ -33,10 +33,6 @@ module _ (img : ℕ → ℕ) where
 
   holds-later : (b b′ : ℕ) → b ≤ b′ → (s : Stretch (List ℕ)) → Holds b s → Holds b′ s
   holds-later b b′ h s w = record { ordered = w .ordered; inside = omega arith; size = w .size; reads = w .reads }
-
-  cut-le : (a b : ℕ) (l : List (Stretch (List ℕ))) → a ≤ b → All (Holds b) l → cut a l ≤ b
-  cut-le a b [] h k = h
-  cut-le a b (s ∷ l) h k = omega (arith, cut-le a b l h (k .1))
 
   module _ (tokens : List (List ℕ)) (S : ℕ) where
     pub recall-known : (b : ℕ) (l : List (Stretch (List ℕ))) (at : ℕ) → All (Holds b) l → Known img at (recall (ofTokens tokens S) l at)
@@ -66,7 +62,8 @@ module _ (img : ℕ → ℕ) where
 
         new : Holds (c .boundary) (record { left = from; right = c .boundary; node = ofTokens tokens S .ancestor (c .node) (c .boundary - from) })
         new =
-            let le : from ≤ c .boundary = cut-le (c .boundary - c .depth) (c .boundary) rest (omega arith) old in
+            let upto = all-map (Holds (c .boundary)) (λ s. s .right ≤ c .boundary) (λ s h. h .inside) rest old in
+            let le : from ≤ c .boundary = cut-upto (c .boundary - c .depth) (c .boundary) rest (omega arith) upto in
             record {
               ordered = le;
               inside = omega arith;

@@ -11,6 +11,7 @@ use borrow.Author.Tests.{leb-true}
 use Rattle.rules.specs.Rules.{Stretch, leftOver, cut, kept}
 use Rattle.rules.specs.Lists.{filter}
 use Rattle.rules.specs.Laws.Tests.{decide}
+use Rattle.rules.specs.Laws.All.{All, all-filter}
 
 pub cut-ge : {E : Type 0} (q : ℕ) (ss : List (Stretch E)) → q ≤ cut q ss
 cut-ge q [] = omega arith
@@ -24,8 +25,11 @@ four-few k h =
 
 -- none of them reaches past n
 abbrev pub Upto : {E : Type 0} → ℕ → List (Stretch E) → Type 0
-Upto n [] = Unit {0}
-Upto n (s ∷ ss) = (s .right ≤ n) × Upto n ss
+Upto n ss = All (λ s. s .right ≤ n) ss
+
+pub cut-upto : {E : Type 0} (q n : ℕ) (ss : List (Stretch E)) → q ≤ n → Upto n ss → cut q ss ≤ n
+cut-upto q n [] i h = i
+cut-upto q n (s ∷ ss) i h = omega (arith, cut-upto q n ss i (h .1))
 
 module _ {E : Type 0} (D : ℕ) where
   abbrev pub Spans : ℕ → ℕ → List (Stretch E) → Type 0
@@ -50,11 +54,12 @@ module _ {E : Type 0} (D : ℕ) where
   short b lo [] i h = omega arith
   short b lo (s ∷ ss) i h = omega (arith, pow-suc 4 (length ss), few b (s .right) ss (h .1) (h .4))
 
+  spans-upto : (b lo : ℕ) (ss : List (Stretch E)) → Spans b lo ss → Upto b ss
+  spans-upto b lo [] h = tt
+  spans-upto b lo (s ∷ ss) h = (omega (arith, h .1), spans-upto b (s .right) ss (h .4))
+
   pub cut-le : (b q lo : ℕ) (ss : List (Stretch E)) → q ≤ b → Spans b lo ss → cut q (leftOver q ss) ≤ b
-  cut-le b q lo [] i h = i
-  cut-le b q lo (s ∷ ss) i h =
-      decide (λ r. cut q r ≤ b) (ltb (s .left) q) _ _
-      (λ t. omega (arith, cut-le b q (s .right) ss i (h .4))) (λ t. cut-le b q (s .right) ss i (h .4))
+  cut-le b q lo ss i h = cut-upto q b (leftOver q ss) i (all-filter (λ s. s .right ≤ b) _ ss (spans-upto b lo ss h))
 
   -- Rule 4 leaves its stretches laid,
   pub laid : (b q from lo : ℕ) (e : E) (ss : List (Stretch E)) → from ≤ b → b ≤ from + D → lo ≤ from → Spans b lo ss

@@ -1,20 +1,21 @@
 -- `edge` meets its contract: the edge so far, and what the slots left would make of it.
 use Prim.Native.Nat.{_-_}
 use borrow.Author.Tests.{not-true, not-false}
-use Rattle.scan.proofs.Recalling.{stop, past, via}
-use Rattle.scan.proofs.Cutting.{Cutting, cutting-begins, cutting-done, cutting-again}
+use Rattle.rules.specs.Laws.Remember.{Edge, edge-begins, edge-done, edge-again}
+use Rattle.scan.specs.State.{used}
+use Rattle.scan.proofs.Recalling.{restFrom, more, stop, past, via}
 use borrow.Author.Needs.{needs}
 use Rattle.scan.proofs.stretches.edge.Statement.{statement}
 use Rattle.scan.proofs.stretches.edge.Tie as tie
 
 abbrev Inv-loop : tie.InvT-loop
-Inv-loop from slots far₀ i₀ far i = Cutting slots from far i
+Inv-loop from slots far₀ i₀ far i = Edge from (used slots) far (restFrom slots i)
 
 abbrev μ-loop : tie.MeasureT-loop
 μ-loop from slots far₀ i₀ far i = 5 - i
 
 loop-holds : tie.Need-loop-holds Inv-loop μ-loop
-loop-holds c = cutting-begins (c .args .t1) (c .args .from)
+loop-holds c = edge-begins (c .args .from) (used (c .args .t1))
 
 mul-s : tie.Need-mul-s Inv-loop μ-loop
 mul-s c = search needs
@@ -28,9 +29,9 @@ in-use-requires c κs = search needs
 returns : tie.Need-returns Inv-loop μ-loop
 returns c = let s = c .before .before .before .before .before in
     let l = c .before .before .before .before .loop in
-    let used = c .before .in-use in
-    cutting-done (l .inv) (stop (s .args .t1) (s .pre) (l .i) (c .before .before .before .loop-test .taken)
-    (via (used .result) (used .ensures) (not-true _ (c .if1 .taken))))
+    let u = c .before .in-use in
+    let none = stop (s .args .t1) (s .pre) (l .i) (c .before .before .before .loop-test .taken) (via (u .result) (u .ensures) (not-true _ (c .if1 .taken))) in
+    edge-done (rw none at (l .inv))
 
 farther-requires : tie.Need-farther-requires Inv-loop μ-loop
 farther-requires c κs = search needs
@@ -44,14 +45,15 @@ loop-less c = search needs
 loop-again : tie.Need-loop-again Inv-loop μ-loop
 loop-again c = let s = c .before .before .before .before .before .before in
     let l = c .before .before .before .before .before .loop in
-    let used = c .before .before .in-use in
-    cutting-again (l .inv) (s .pre) (c .before .before .before .before .loop-test .taken)
-    (via (used .result) (used .ensures) (not-false _ (c .before .if1 .left))) (c .farther .result) (c .farther .ensures)
+    let u = c .before .before .in-use in
+    let one = more (s .args .t1) (s .pre) (l .i) (c .before .before .before .before .loop-test .taken) (via (u .result) (u .ensures) (not-false _ (c .before .if1 .left))) in
+    edge-again (rw one at (l .inv)) (c .farther .result) (c .farther .ensures)
 
 returns-2 : tie.Need-returns-2 Inv-loop μ-loop
 returns-2 c = let s = c .before .before in
     let l = c .before .loop in
-    cutting-done (l .inv) (past (s .args .t1) (s .pre) (l .i) (c .loop-test .left))
+    let none = past (s .args .t1) (s .pre) (l .i) (c .loop-test .left) in
+    edge-done (rw none at (l .inv))
 
 pub edge-spec : {M : Type 1} → statement M
 edge-spec =

@@ -1,7 +1,7 @@
 -- `farther` meets its contract.
 use native.Mathlib.Omega.{arith}
 use borrow.Author.Tests.{lt-ltb, le-ltb}
-use Rattle.scan.specs.Memory.{fartherOf}
+use Rattle.rules.specs.Laws.Remember.{fartherOf}
 use Rattle.scan.proofs.stretches.farther.Statement.{statement}
 use Rattle.scan.proofs.stretches.farther.Tie as tie
 

@@ -17,7 +17,7 @@ abbrev μ-loop : tie.MeasureT-loop
 μ-loop from b slots f₀ i₀ f i = 5 - i
 
 loop-holds : tie.Need-loop-holds Inv-loop μ-loop
-loop-holds c = record { upto = omega arith; few = omega arith; lies = c .pre .1; held = []; is = refl; rest = refl }
+loop-holds c = record { upto = omega arith; few = omega arith; lies = c .pre .1; held = []; is = refl; stay = record { whole = refl } }
 
 mul-s : tie.Need-mul-s Inv-loop μ-loop
 mul-s c = search needs

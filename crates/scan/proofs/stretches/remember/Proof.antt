@@ -1,8 +1,11 @@
 -- `remember` meets its contract: the stretches that stay, and the new one behind them if it is kept.
+use Prim.Native.Nat.{_-_}
+use native.Mathlib.Omega.{arith}
 use borrow.Author.Tests.{not-true, not-false}
+use Rattle.rules.specs.Laws.Remember.{lie-later, new-lies}
 use Rattle.scan.specs.State.{used}
 use Rattle.scan.proofs.Recalling.{via}
-use Rattle.scan.proofs.Ending.{lie-later, edge-from, new-lies, ends-full, ends-dropped, ends-put}
+use Rattle.scan.proofs.Ending.{edge-from, ends-full, ends-dropped, ends-put}
 use borrow.Author.Needs.{needs}
 use Rattle.scan.proofs.stretches.remember.Statement.{statement}
 use Rattle.scan.proofs.stretches.remember.Tie as tie
@@ -16,7 +19,8 @@ edge-requires c κs = search needs
 held-requires : tie.Need-held-requires
 held-requires c κs = let s = c .before .before in
     let a = s .args in
-    (s .pre .1 .0, lie-later (a .parent .now) (used (a .slots)) (a .node) (a .depth) (a .boundary) (a .next) (s .pre .1 .1 .1) (s .pre .1 .1 .0))
+    let ends = s .pre .1 .1 .1 in
+    (s .pre .1 .0, lie-later (a .boundary) (a .next) (ends .moves) (ends .small) (used (a .slots)) (s .pre .1 .1 .0))
 
 sub-lift : tie.Need-sub-lift
 sub-lift c = let s = c .before .before .before in
@@ -40,9 +44,9 @@ keeps-requires : tie.Need-keeps-requires
 keeps-requires c κs = let s = c .before .before .before .before .before .before in
     let a = s .args in
     let e = c .before .before .before .before .edge in
-    let l = c .before .before .lift in
-    new-lies (a .parent .now) (used (a .slots)) (a .node) (a .depth) (a .boundary) (a .next) (s .pre .1 .1 .1) (s .pre .1 .1 .0)
-    (e .result) (e .ensures) (l .result) (l .ensures)
+    let ends = s .pre .1 .1 .1 in
+    new-lies (a .boundary) (a .next) (ends .moves) (ends .small) (used (a .slots)) (s .pre .1 .1 .0) (a .boundary - a .depth)
+    (e .result) (c .before .before .lift .result) (omega arith) (e .ensures)
 
 returns-2 : tie.Need-returns-2
 returns-2 c = let s = c .before .before .before .before .before .before .before .before .before in
