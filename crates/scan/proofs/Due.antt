@@ -12,7 +12,7 @@ use Rattle.trie.specs.Tables.{Tables}
 use Rattle.trie.specs.Answers.{tables}
 use Rattle.scan.specs.declared.Scan.{Scan}
 use Rattle.scan.specs.State.{used, configOf, treeOf, wantsByte, dueOk}
-use Rattle.scan.specs.Ranges.{covers}
+use Rattle.scan.specs.Memory.{covers}
 
 -- The rules are not done, the round goes on, and the place is in no stretch.
 abbrev pub fetches : {E : Type 0} → Tree E → ℕ → Config E → Bool

@@ -18,7 +18,7 @@ use Rattle.trie.specs.Laws.Shape.{way-lifts}
 use Rattle.scan.specs.declared.Stretch.{Stretch as Slot}
 use Rattle.scan.specs.State.{stretchOf, unused, inUse, used}
 use Rattle.scan.specs.Ways.{paths, Rises}
-use Rattle.scan.specs.Memory.{covering, recallBy}
+use Rattle.scan.specs.Memory.{covers, recallBy}
 use Rattle.scan.specs.Laws.Within.{Fits}
 use Rattle.scan.specs.Laws.Ways.{lifted-alike}
 use Rattle.scan.proofs.Climbing.{falls}
@@ -74,18 +74,18 @@ module _ {parent label : List ℕ} {slots : List Slot} {at count i : ℕ} (r : R
       | false ↦ recallBy parent label (restFrom slots (i + 1)) at
     ]
 
-    looks : (b : Bool) → covering m at ≡ b → looked b ≡ recallBy parent label (used slots) at
+    looks : (b : Bool) → covers at m ≡ b → looked b ≡ recallBy parent label (used slots) at
     looks b e = sym (ap looked e) ∙ sym (ap (λ ms. recallBy parent label ms at) (more slots size i h held)) ∙ r .rest
 
-    pub recalling-again : covering m at ≡ false → Recalling parent label slots at count (i + 1)
+    pub recalling-again : covers at m ≡ false → Recalling parent label slots at count (i + 1)
     recalling-again e = record { upto = omega arith; rest = looks false e; fits = both-fit .1 }
 
-    pub inside : covering m at ≡ true → (m .left ≤ at) × (at < m .right)
+    pub inside : covers at m ≡ true → (m .left ≤ at) × (at < m .right)
     inside e =
         let p = passed (leb (m .left) at ∷ ltb at (m .right) ∷ []) e in
         (leb-true (m .left) at (p 0), ltb-true at (m .right) (p 1))
 
-    module _ (e : covering m at ≡ true) (v : ℕ) (up : v ≡ lifted (paths parent []) (at - m .left) (m .node)) where
+    module _ (e : covers at m ≡ true) (v : ℕ) (up : v ≡ lifted (paths parent []) (at - m .left) (m .node)) where
       same : v ≡ lifted (paths parent label) (at - m .left) (m .node)
       same = up ∙ lifted-alike (paths parent []) (paths parent label) refl (at - m .left) (m .node)
 

@@ -15,7 +15,7 @@ use Rattle.trie.specs.Tables.{Tables}
 use Rattle.scan.specs.declared.Scan.{Scan}
 use Rattle.scan.specs.declared.Stretch.{Stretch as Slot}
 use Rattle.scan.specs.State.{stretchOf, unused, inUse, used, laid, maxStretches, stretchOk, rising, sameSlots, stretchesOk}
-use Rattle.scan.specs.Ranges.{covers}
+use Rattle.scan.specs.Memory.{covers}
 
 -- A walk over the slots that stands at slot i: what f says of the slots from there on, g says of all.
 pub record Walked (f g : List Slot → Bool) (slots : List Slot) (i : ℕ) : Type 0 where

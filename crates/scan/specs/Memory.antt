@@ -24,8 +24,8 @@ recalledOf (Byte x) = some x
 recalledOf Nothing = none
 
 -- The place lies in the stretch.
-abbrev pub covering : Stretch ℕ → ℕ → Bool
-covering m at = leb (m .left) at && ltb at (m .right)
+abbrev pub covers : {E : Type 0} → ℕ → Stretch E → Bool
+covers at m = leb (m .left) at && ltb at (m .right)
 
 -- Rule 2 asks nothing of the other tables, nor of the node count and S.
 abbrev pub recallBy : List ℕ → List ℕ → List (Stretch ℕ) → ℕ → Option ℕ

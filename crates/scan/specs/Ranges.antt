@@ -1,11 +1,8 @@
--- What the tests of a state's ranges ask of the tables, and say of the stretches.
+-- What the tests of a state's ranges ask of the tables.
 use Prim.Native.Nat.{ℕ}
 use mathlib.Core.Path.{_≡_}
-use mathlib.Core.Bool.{Bool, _&&_}
 use mathlib.Core.List.{List}
 use mathlib.Core.Option.{none}
-use lib.Dec.{leb, ltb}
-use Rattle.rules.specs.Rules.{Stretch}
 use Rattle.trie.specs.Broken.{broken}
 use Rattle.trie.specs.Answers.{tables}
 
@@ -15,7 +12,3 @@ pub record Passing (parent first : List ℕ) (count : ℕ) : Type 0 where
   pub token : List ℕ
   pub next : List ℕ
   pub fine : broken (tables parent label token first next) count ≡ none
-
--- A place lies in a stretch.
-abbrev pub covers : {E : Type 0} → ℕ → Stretch E → Bool
-covers at m = leb (m .left) at && ltb at (m .right)

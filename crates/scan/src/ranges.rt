@@ -4,6 +4,8 @@ use crate::Scan;
 use crate::Stretch;
 use crate::spell::run_end;
 use crate::spell::wide;
+use crate::stretches::covers;
+use crate::stretches::in_use;
 ghost use Prim.Native.Nat.{ℕ, _≤_, _<_};
 ghost use mathlib.Core.Path.{_≡_};
 ghost use mathlib.Core.Bool.{_&&_};
@@ -14,9 +16,10 @@ ghost use Rattle.rules.specs.Lists.{any};
 ghost use Rattle.book.specs.Book.{maxImage};
 ghost use Rattle.trie.specs.Walks.{depth};
 ghost use Rattle.trie.specs.Answers.{tables};
-ghost use Rattle.scan.specs.State.{stretchOf, inUse, used, farthest, stretchOk, stretchesOk, dueOk, inRange};
+ghost use Rattle.scan.specs.State.{stretchOf, used, farthest, stretchOk, stretchesOk, dueOk, inRange};
 ghost use Rattle.scan.specs.Ways.{paths, Rises, Climbs};
-ghost use Rattle.scan.specs.Ranges.{covers, Passing};
+ghost use Rattle.scan.specs.Ranges.{Passing};
+ghost use Rattle.scan.specs.Memory.{covers};
 
 // The ends of the ranges: of the node count, N, S, b past the end of the image, and the bytes supplied.
 const NODES: usize = 16385;
@@ -57,16 +60,6 @@ fn lies(parent: &[u16], count: usize, node: usize, deep: usize) -> bool
     ensures { λ r. ⌜ r ≡ (ltb node count && eqb (depth (paths (now (parent .entry)) []) node) deep) ⌝ }
 {
     node < count && climbed(parent, node) == deep
-}
-
-// Whether the slot holds a stretch.
-fn in_use(m: Stretch) -> bool
-    ensures { λ r. ⌜ r ≡ inUse m ⌝ }
-{
-    if m.left != 0 || m.right != 0 {
-        return true;
-    }
-    m.node != 0
 }
 
 // Whether a stretch is in range. The order of the tests keeps each difference and product within its type.
@@ -111,13 +104,6 @@ fn stretches_ok(parent: &[u16], scan: Scan) -> bool
     true
 }
 
-// Whether a place lies in a stretch.
-fn covered(m: Stretch, at: usize) -> bool
-    ensures { λ r. ⌜ r ≡ covers at (stretchOf m) ⌝ }
-{
-    m.left <= at && at < m.right
-}
-
 // Whether a place lies in one of the stretches of the slots in use, which come first.
 fn remembered(scan: Scan, at: usize) -> bool
     ensures { λ r. ⌜ r ≡ any (covers at) (used (scan .stretches)) ⌝ }
@@ -127,7 +113,7 @@ fn remembered(scan: Scan, at: usize) -> bool
         if !in_use(m) {
             return false;
         }
-        if covered(m, at) {
+        if covers(m, at) {
             return true;
         }
     }

@@ -8,7 +8,7 @@ ghost use Rattle.rules.specs.Laws.All.{All};
 ghost use Rattle.rules.specs.Laws.Remember.{Lies, fartherOf, stays, staying};
 ghost use Rattle.scan.specs.State.{stretchOf, inUse, used};
 ghost use Rattle.scan.specs.Ways.{Climbs};
-ghost use Rattle.scan.specs.Memory.{recalledOf, recallBy, Remembers, covering, putIn, siftIn, filledWith, Ends, rememberBy};
+ghost use Rattle.scan.specs.Memory.{recalledOf, recallBy, Remembers, covers, putIn, siftIn, filledWith, Ends, rememberBy};
 use crate::Stretch;
 use crate::spell;
 
@@ -19,7 +19,7 @@ pub enum Recalled {
 }
 
 // A slot is in use if it is not all zeros.
-fn in_use(s: Stretch) -> bool
+pub fn in_use(s: Stretch) -> bool
     ensures { λ r. ⌜ r ≡ inUse s ⌝ }
 {
     if s.left != 0 {
@@ -32,8 +32,8 @@ fn in_use(s: Stretch) -> bool
 }
 
 // The place lies in the stretch.
-fn covers(s: Stretch, at: usize) -> bool
-    ensures { λ r. ⌜ r ≡ covering (stretchOf s) at ⌝ }
+pub fn covers(s: Stretch, at: usize) -> bool
+    ensures { λ r. ⌜ r ≡ covers at (stretchOf s) ⌝ }
 {
     if at < s.left {
         return false;

@@ -18,7 +18,7 @@ use Rattle.trie.specs.Walks.{ending, depth, lifted, words, ofTables}
 use Rattle.trie.specs.Answers.{tables}
 use Rattle.scan.specs.State.{laid, maxStretches}
 use Rattle.scan.specs.Ways.{paths, Climbs}
-use Rattle.scan.specs.Memory.{covering, recallBy, Remembers, Ends, rememberBy}
+use Rattle.scan.specs.Memory.{covers, recallBy, Remembers, Ends, rememberBy}
 use Rattle.scan.specs.Laws.Within.{Ready, Fits, Within}
 use Rattle.scan.specs.Laws.Ways.{lifted-alike, depth-alike, ending-alike, words-alike, unbroken-rises}
 
@@ -39,8 +39,8 @@ module _ (t : Tables) (count S : ℕ) where
       let k = m .right - 1 - at in
       let far = ap (λ d. d - 1 - k) (depth-alike u t refl (m .node)) in
       let byte = ap (λ v. getD (t .label) v 0) (ap (λ n. lifted u n (m .node)) far ∙ lifted-alike u t refl (depth t (m .node) - 1 - k) (m .node)) in
-      ap (λ b. found (covering m at) b (recallBy (t .parent) (t .label) ms at)) byte
-      ∙ ap (found (covering m at) (getD (t .label) (lifted t (depth t (m .node) - 1 - k) (m .node)) 0)) (recall-by ms at)
+      ap (λ b. found (covers at m) b (recallBy (t .parent) (t .label) ms at)) byte
+      ∙ ap (found (covers at m) (getD (t .label) (lifted t (depth t (m .node) - 1 - k) (m .node)) 0)) (recall-by ms at)
     where
       found : Bool → ℕ → Option ℕ → Option ℕ
       found b x o = elim b [ true ↦ some x | false ↦ o ]

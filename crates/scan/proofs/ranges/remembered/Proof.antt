@@ -38,15 +38,15 @@ returns c =
     seek-stops at (d .before .before .before .loop .inv) (d .before .before .loop-test .taken)
     (sym (d .in-use .ensures) ∙ not-true _ (c .if1 .taken))
 
-covered-requires : tie.Need-covered-requires Inv-loop μ-loop
-covered-requires c κs = search needs
+covers-requires : tie.Need-covers-requires Inv-loop μ-loop
+covers-requires c κs = search needs
 
 returns-2 : tie.Need-returns-2 Inv-loop μ-loop
 returns-2 c =
     let d = c .before .before .before in
     let at = d .before .before .before .before .args .at in
     seek-finds at (d .before .before .before .loop .inv) (d .before .before .loop-test .taken)
-    (sym (d .in-use .ensures) ∙ not-false _ (c .before .before .if1 .left)) (sym (c .before .covered .ensures) ∙ c .if2 .taken)
+    (sym (d .in-use .ensures) ∙ not-false _ (c .before .before .if1 .left)) (sym (c .before .covers .ensures) ∙ c .if2 .taken)
 
 add-i : tie.Need-add-i Inv-loop μ-loop
 add-i c = omega arith
@@ -59,7 +59,7 @@ loop-again c =
     let d = c .before .before .before in
     let at = d .before .before .before .before .args .at in
     seek-again at (d .before .before .before .loop .inv) (d .before .before .loop-test .taken)
-    (sym (d .in-use .ensures) ∙ not-false _ (c .before .before .if1 .left)) (sym (c .before .covered .ensures) ∙ c .if2 .left)
+    (sym (d .in-use .ensures) ∙ not-false _ (c .before .before .if1 .left)) (sym (c .before .covers .ensures) ∙ c .if2 .left)
 
 returns-3 : tie.Need-returns-3 Inv-loop μ-loop
 returns-3 c = walk-end (c .before .loop .inv) (c .loop-test .left)
@@ -75,7 +75,7 @@ remembered-spec =
     element-copy-out-m
     in-use-requires
     returns
-    covered-requires
+    covers-requires
     returns-2
     add-i
     loop-less
