@@ -55,23 +55,10 @@ module _ {t : Tables} {s : Scan} (steady : Steady t s) where
   pub begins : s .due ≡ false → Runs t s s
   begins e = record {
     config = configOf s;
-    stands = ap (λ l. again l (s .due)) (slots-laid s (steady .slots)) ∙ ap (again (moved s (configOf s) false .stretches)) e;
+    stands = rw (← slots-laid s (steady .slots), ← e);
     within = steady .within;
     rest = refl;
   }
-    where
-      again : List Slot → Bool → Scan
-      again l d = record {
-        image = s .image;
-        shortest = s .shortest;
-        count = s .count;
-        boundary = s .boundary;
-        node = s .node;
-        depth = s .depth;
-        due = d;
-        stretches = l;
-        supplied = s .supplied;
-      }
 
   -- A state that is moved to a configuration in range is steady.
   pub moved-steady : (c : Config ℕ) → WithinFor t s c → (due : Bool) → Steady t (moved s c due)

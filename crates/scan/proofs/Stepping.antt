@@ -66,54 +66,35 @@ module _ {parent label token : List ℕ} {s : Scan} (e : Ending parent label tok
           (slots-five s (e .steady .slots), (within-lies r (configOf s) w, within-ends r (configOf s) w by short)),
         )
 
--- The state after a round has ended.
-pub ended-state : (parent label token first next : List ℕ) (s : Scan) (o : Option ℕ) (by : ℕ) (slots : List Slot)
-    → by ≡ shiftIn parent label token s o
-    → slots ≡ rememberBy parent (used (s .stretches)) (s .node) (s .depth) (s .boundary) (s .boundary + by)
-    → record {
-      image = s .image;
-      shortest = s .shortest;
-      count = s .count;
-      boundary = s .boundary + by;
-      node = 0;
-      depth = 0;
-      due = s .due;
-      stretches = slots;
-      supplied = s .supplied;
-    }
-    ≡ moved s (endRound (treeOf (tables parent label token first next) s) (configOf s) o .config) (s .due)
-ended-state parent label token first next s o by slots p q =
-    let t = tables parent label token first next in
-    let far = p ∙ shift-by t (s .count) (s .shortest) (s .node) o in
-    ap (λ l. at by l) (q ∙ remember-by t (s .count) (s .shortest) (configOf s) (s .boundary + by))
-    ∙ ap (λ b. at b (laid maxStretches (filter (kept (s .boundary + b)) (ended (treeOf t s) (configOf s))))) far
-  where
-    at : ℕ → List Slot → Scan
-    at b l = record {
-      image = s .image;
-      shortest = s .shortest;
-      count = s .count;
-      boundary = s .boundary + b;
-      node = 0;
-      depth = 0;
-      due = s .due;
-      stretches = l;
-      supplied = s .supplied;
-    }
-
--- the state at another node, one deeper
-abbrev down : Scan → ℕ → List Slot → Scan
-down s v l = record {
+-- the same sweep, with a round that stands elsewhere
+abbrev standing : Scan → ℕ → ℕ → ℕ → List Slot → Scan
+standing s b v d l = record {
   image = s .image;
   shortest = s .shortest;
   count = s .count;
-  boundary = s .boundary;
+  boundary = b;
   node = v;
-  depth = s .depth + 1;
+  depth = d;
   due = s .due;
   stretches = l;
   supplied = s .supplied;
 }
+
+-- The state after a round has ended.
+pub ended-state : (parent label token first next : List ℕ) (s : Scan) (o : Option ℕ) (by : ℕ) (slots : List Slot)
+    → by ≡ shiftIn parent label token s o
+    → slots ≡ rememberBy parent (used (s .stretches)) (s .node) (s .depth) (s .boundary) (s .boundary + by)
+    → standing s (s .boundary + by) 0 0 slots
+    ≡ moved s (endRound (treeOf (tables parent label token first next) s) (configOf s) o .config) (s .due)
+ended-state parent label token first next s o by slots p q =
+    let t = tables parent label token first next in
+    ap (standing s (s .boundary + by) 0 0) (q ∙ remember-by t (s .count) (s .shortest) (configOf s) (s .boundary + by))
+    ∙ ap (λ b. standing s (s .boundary + b) 0 0 (laid maxStretches (filter (kept (s .boundary + b)) (ended (treeOf t s) (configOf s)))))
+    (p ∙ shift-by t (s .count) (s .shortest) (s .node) o)
+
+-- the state at another node, one deeper
+abbrev down : Scan → ℕ → List Slot → Scan
+down s v l = standing s (s .boundary) v (s .depth + 1) l
 
 module _ (parent label token first next : List ℕ) (s : Scan) (x : ℕ) (k : Child)
     (is : childOf k ≡ childBy (tables [] label [] first next) (s .count) (s .node) x) where
