@@ -2,38 +2,22 @@
 use Prim.Native.Nat.{ℕ, _-_, _≤_, _<_}
 use mathlib.Core.Path.{_≡_, ap, sym, _∙_}
 use mathlib.Core.Bool.{true, false}
-use mathlib.Core.Option.{none}
 use borrow.Author.Tests.{lt-ltb, le-ltb, eq-eqb, ne-eqb}
 use lib.Dec.{eqb}
 use lib.ListN.{getD}
-use Rattle.rules.specs.Rules.{finished, goes, place, stops, recall, endRound, take, look, next}
+use Rattle.rules.specs.Rules.{place, stops, recall, look, next}
 use Rattle.rules.specs.Laws.Tests.{or-r}
 use Rattle.trie.specs.Tables.{Tables}
 use Rattle.scan.specs.declared.Scan.{Scan}
 use Rattle.scan.specs.declared.stretches.Recalled.{Recalled}
 use Rattle.scan.specs.declared.stretches.Recalled.the-variants.{Byte, Nothing}
-use Rattle.scan.specs.declared.steps.Found.the-variants.{On, Hit}
-use Rattle.scan.specs.declared.steps.Taken.{Taken}
 use Rattle.scan.specs.declared.steps.Move.the-variants.{Finished, Wants, End, Take}
 use Rattle.scan.specs.State.{configOf, treeOf, used}
-use Rattle.scan.specs.Calls.{Hit as Heard, noHit, hitOf, hitIn, moved}
 use Rattle.scan.specs.Memory.{recalledOf, recallBy}
-use Rattle.scan.specs.Steps.{foundOf, takenBy, Chosen, Moved, Advanced, over, waits, on, hits, moveOf, advancedBy, advancedIn}
+use Rattle.scan.specs.Steps.{Chosen}
 use Rattle.scan.specs.Laws.Memory.{recall-by}
 
-move-on : (h : Heard) → foundOf h ≡ On → on ≡ moveOf h
-move-on noHit e = cc
-move-on (hitOf x i) e = cc
-
-move-hit : (h : Heard) (x i : ℕ) → foundOf h ≡ Hit x i → hits x i ≡ moveOf h
-move-hit noHit x i e = cc
-move-hit (hitOf y j) x i e = cc
-
-abbrev pub to : Scan → Moved → Advanced
-to s m = record { state = s; step = m }
-
 module _ (t : Tables) (s : Scan) where
-  -- What is chosen.
   pub over-is : s .image < s .boundary → Chosen t s Finished
   over-is h = cc (lt-ltb (s .image) (s .boundary) h)
 
@@ -66,23 +50,3 @@ module _ (t : Tables) (s : Scan) where
 
       pub takes-is : (x : ℕ) → k ≡ Byte x → Chosen t s (Take x)
       takes-is x e = looks (Byte x) e
-
-  -- What it comes to.
-  pub over-comes : Chosen t s Finished → to s over ≡ advancedIn t s
-  over-comes e = sym (ap (advancedBy s) e)
-
-  pub wants-comes : (p : ℕ) → Chosen t s (Wants p) → to s (waits p) ≡ advancedIn t s
-  wants-comes p e = sym (ap (advancedBy s) e)
-
-  pub ends-comes : Chosen t s End → (r : Scan) → r ≡ moved s (endRound (treeOf t s) (configOf s) none .config) (s .due) → to r on ≡ advancedIn t s
-  ends-comes e r q = ap (λ r. to r on) q ∙ sym (ap (advancedBy s) e)
-
-  module _ (x : ℕ) (e : Chosen t s (Take x)) (r : Taken) (q : r ≡ takenBy s (take (treeOf t s) (configOf s) x)) where
-    comes : (m : Moved) → m ≡ moveOf (hitIn (take (treeOf t s) (configOf s) x .events)) → to (r .state) m ≡ advancedIn t s
-    comes m h = ap (λ r. to (r .state) m) q ∙ ap (to (takenBy s (take (treeOf t s) (configOf s) x) .state)) h ∙ sym (ap (advancedBy s) e)
-
-    pub goes-on : r .found ≡ On → to (r .state) on ≡ advancedIn t s
-    goes-on f = comes on (move-on (hitIn (take (treeOf t s) (configOf s) x .events)) (sym (ap (λ r. r .found) q) ∙ f))
-
-    pub goes-hit : (b j : ℕ) → r .found ≡ Hit b j → to (r .state) (hits b j) ≡ advancedIn t s
-    goes-hit b j f = comes (hits b j) (move-hit (hitIn (take (treeOf t s) (configOf s) x .events)) b j (sym (ap (λ r. r .found) q) ∙ f))

@@ -21,12 +21,12 @@ use Rattle.scan.specs.declared.steps.Taken.{Taken}
 use Rattle.scan.specs.State.{configOf, treeOf, inRange}
 use Rattle.scan.specs.Calls.{Hit as Hits, noHit, hitOf, hitIn, moved, counted, settle, enough, outOfTurn, judged, carryOn, supply}
 use Rattle.scan.specs.Results.{judgedOf, steppedOf}
-use Rattle.scan.specs.Steps.{Steady, foundOf, takenBy}
+use Rattle.scan.specs.Steps.{Steady, takenBy}
 use Rattle.scan.specs.Laws.Within.{slots, moved-config}
 use Rattle.scan.specs.Laws.Stay.{next-within}
 use Rattle.scan.specs.Laws.Settle.{onHit, onNext, onJudged}
 use Rattle.scan.specs.Laws.Kept.{ReadyFor, WithinFor, NextFor, Ample, ample, admitted, admitted-ready, admitted-within, supplied-within}
-use Rattle.scan.proofs.Settling.{moved-steady}
+use Rattle.scan.proofs.Settling.{moved-steady, not-heard, heard}
 
 -- by whether the call is out of turn
 abbrev turned : Bool → Judged
@@ -65,14 +65,6 @@ module _ (t : Tables) (s : Scan) (r : ReadyFor t s) (c₀ : Config ℕ) (d : Boo
   settle-moved : (f : ℕ) (c : Config ℕ) → WithinFor t s c → Ample s c f → settle t (moved s c₀ d) f c ≡ settle t s f c
   settle-moved zero c h k = absurd (omega (arith, k .0))
   settle-moved (suc f) c h k = next-same f (settle-moved f) c k (next (treeOf t s) (s .image) c) (next-within r c h)
-
-not-heard : (h : Hits) → foundOf h ≡ On → h ≡ noHit
-not-heard noHit e = refl
-not-heard (hitOf x i) e = cc
-
-heard : (h : Hits) (x i : ℕ) → foundOf h ≡ Heard x i → h ≡ hitOf x i
-heard noHit x i e = cc
-heard (hitOf y j) x i e = cc
 
 -- The refused calls hand the state back.
 module _ (t : Tables) (s : Scan) (a : Said) (k : Judged) (e : k ≡ Refused a) where

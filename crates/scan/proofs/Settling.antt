@@ -3,19 +3,21 @@ use Prim.Native.Nat.{ℕ, suc, _<_}
 use native.Mathlib.Omega.{arith}
 use mathlib.Core.Path.{_≡_, refl, ap, sym, subst, _∙_}
 use mathlib.Core.Bool.{Bool, true, false}
-use mathlib.Core.List.{List}
+use mathlib.Core.Option.{none}
 use Rattle.book.specs.Book.{maxBody}
-use Rattle.rules.specs.Rules.{Config, Next, finished, wants, goes, next}
+use Rattle.rules.specs.Rules.{Config, Step, Next, finished, wants, goes, endRound, take, next}
 use Rattle.rules.specs.Laws.Limit.Ends.{stepsLeft}
 use Rattle.trie.specs.Tables.{Tables}
 use Rattle.scan.specs.declared.Scan.{Scan}
-use Rattle.scan.specs.declared.Stretch.{Stretch as Slot}
 use Rattle.scan.specs.declared.Answer.the-variants.{Fetch, Hit, Done}
 use Rattle.scan.specs.declared.Stepped.{Stepped as Result}
+use Rattle.scan.specs.declared.steps.Found.the-variants.{On, Hit as Found}
+use Rattle.scan.specs.declared.steps.Taken.{Taken}
+use Rattle.scan.specs.declared.steps.Move.the-variants.{Finished, Wants, End, Take}
 use Rattle.scan.specs.State.{configOf, treeOf}
 use Rattle.scan.specs.Calls.{Hit as Heard, noHit, hitOf, hitIn, moved, settle, enough}
 use Rattle.scan.specs.Results.{steppedOf}
-use Rattle.scan.specs.Steps.{Steady, Advanced, over as Finished, waits as Wants, on as Goes, hits as Found, moveOf, advancedBy, advancedIn}
+use Rattle.scan.specs.Steps.{Steady, foundOf, takenBy, Chosen}
 use Rattle.scan.specs.Laws.Slots.{slots-laid}
 use Rattle.scan.specs.Laws.Within.{moved-config, moved-slots}
 use Rattle.scan.specs.Laws.Stay.{next-within}
@@ -28,6 +30,10 @@ pub record Runs (t : Tables) (s u : Scan) : Type 0 where
   pub stands : u ≡ moved s config false
   pub within : WithinFor t s config
   pub rest : settle t s (enough s) config ≡ settle t s (enough s) (configOf s)
+
+-- A run that stands at u goes on from r, with fewer steps left.
+abbrev pub Onwards : Tables → Scan → Scan → Scan → Type 0
+Onwards t s u r = Runs t s r × (stepsLeft (s .image) maxBody (r .boundary) (r .depth) < stepsLeft (s .image) maxBody (u .boundary) (u .depth))
 
 -- the same state, with a byte due
 abbrev waiting : Scan → Scan
@@ -43,11 +49,12 @@ waiting s = record {
   supplied = s .supplied;
 }
 
-not-heard : (h : Heard) → moveOf h ≡ Goes → h ≡ noHit
+-- What was found says which hit there was.
+pub not-heard : (h : Heard) → foundOf h ≡ On → h ≡ noHit
 not-heard noHit e = refl
 not-heard (hitOf x i) e = cc
 
-heard : (h : Heard) (x i : ℕ) → moveOf h ≡ Found x i → h ≡ hitOf x i
+pub heard : (h : Heard) (x i : ℕ) → foundOf h ≡ Found x i → h ≡ hitOf x i
 heard noHit x i e = cc
 heard (hitOf y j) x i e = cc
 
@@ -77,88 +84,50 @@ module _ {t : Tables} {s : Scan} (steady : Steady t s) where
       let a = ample s c in
       settle-enough t s (steady .ready) c w (enough s) (suc (enough s)) a (omega arith, λ i. omega (arith, a .1 i))
 
-  -- A step of the run, from u to r.
-  module _ {u : Scan} (runs : Runs t s u) (r : Advanced) (is : r ≡ advancedIn t u) where
-    abbrev c : Config ℕ
-    c = runs .config
+  -- The run stands at u, and x comes next.
+  module _ {u : Scan} (runs : Runs t s u) (x : Next ℕ) (is : next (treeOf t u) (u .image) (configOf u) ≡ x) where
+    coming : next (treeOf t s) (s .image) (runs .config) ≡ x
+    coming =
+        sym (ap (λ u. next (treeOf t u) (u .image) (configOf u)) (runs .stands)
+        ∙ ap (next (treeOf t s) (s .image)) (moved-config t s (runs .config) (runs .within) false))
+        ∙ is
 
-    abbrev coming : Next ℕ
-    coming = next (treeOf t s) (s .image) c
+    whole : onNext t s (enough s) (runs .config) x ≡ settle t s (enough s) (configOf s)
+    whole = ap (onNext t s (enough s) (runs .config)) (sym coming) ∙ sym (settle-next (runs .config) (runs .within)) ∙ runs .rest
 
-    here : r ≡ advancedBy (moved s c false) coming
-    here =
-        is ∙ ap (advancedIn t) (runs .stands)
-        ∙ ap (λ d. advancedBy (moved s c false) (next (treeOf t s) (s .image) d)) (moved-config t s c (runs .within) false)
+  abbrev Answers : Result → Type 0
+  Answers a = steppedOf a ≡ settle t s (enough s) (configOf s)
 
-    whole : onNext t s (enough s) c coming ≡ settle t s (enough s) (configOf s)
-    whole = sym (settle-next c (runs .within)) ∙ runs .rest
+  module _ {u : Scan} (runs : Runs t s u) where
+    pub runs-over : Chosen t u Finished → Answers (record { state = u; answer = Done })
+    runs-over is = ap (λ u. steppedOf (record { state = u; answer = Done })) (runs .stands) ∙ whole runs finished is
 
-    -- The run goes on.
-    pub runs-on : r .step ≡ Goes → Runs t s (r .state) × (stepsLeft (s .image) maxBody (r .state .boundary) (r .state .depth)
-        < stepsLeft (s .image) maxBody (u .boundary) (u .depth))
-    runs-on e = go coming (next-within (steady .ready) c (runs .within)) here whole
-      where
-        go : (x : Next ℕ) → NextFor t s c x → r ≡ advancedBy (moved s c false) x
-            → onNext t s (enough s) c x ≡ settle t s (enough s) (configOf s)
-            → Runs t s (r .state) × (stepsLeft (s .image) maxBody (r .state .boundary) (r .state .depth)
-            < stepsLeft (s .image) maxBody (u .boundary) (u .depth))
-        go finished h q w = absurd (let z : _≡_ {A = ℕ} 0 1 = cc (ap (λ r. r .step) q) in omega arith)
-        go (wants at) h q w = absurd (let z : _≡_ {A = ℕ} 0 1 = cc (ap (λ r. r .step) q) in omega arith)
-        go (goes v) h q w =
-            let stands : r .state ≡ moved s (v .config) false = ap (λ r. r .state) q in
-            let quiet = not-heard (hitIn (v .events)) (sym (ap (λ r. r .step) q) ∙ e) in (
-              record {
-                config = v .config;
-                stands = stands;
-                within = h .within;
-                rest = ap (onHit t s (enough s) v) (sym quiet) ∙ w;
-              },
-              subst (λ z. stepsLeft (s .image) maxBody (z .boundary) (z .depth) < stepsLeft (s .image) maxBody (u .boundary) (u .depth)) (sym stands)
-                  (subst (λ z. stepsLeft (s .image) maxBody (v .config .boundary) (v .config .depth) < stepsLeft (s .image) maxBody (z .boundary) (z .depth)) (sym (runs .stands)) (h .less)),
-            )
+    pub runs-wants : (p : ℕ) → Chosen t u (Wants p) → Answers (record { state = waiting u; answer = Fetch p })
+    runs-wants p is = ap (λ u. steppedOf (record { state = waiting u; answer = Fetch p })) (runs .stands) ∙ whole runs (wants p) is
 
-    -- The run ends, and answers.
-    abbrev Answers : Result → Type 0
-    Answers a = steppedOf a ≡ settle t s (enough s) (configOf s)
+    -- A step w, which leads to r: the run goes on, or answers with a hit.
+    module _ (w : Step ℕ) (is : next (treeOf t u) (u .image) (configOf u) ≡ goes w) (r : Scan) (to : r ≡ moved u (w .config) (u .due)) where
+      stands : r ≡ moved s (w .config) false
+      stands = to ∙ ap (λ u. moved u (w .config) (u .due)) (runs .stands)
 
-    answers : (a : Advanced → Result) → ((x : Next ℕ) → r ≡ advancedBy (moved s c false) x → steppedOf (a (advancedBy (moved s c false) x)) ≡ onNext t s (enough s) c x)
-        → Answers (a r)
-    answers a f = ap (λ r. steppedOf (a r)) here ∙ f coming here ∙ whole
+      runs-on : hitIn (w .events) ≡ noHit → Onwards t s u r
+      runs-on quiet =
+          let h = subst (NextFor t s (runs .config)) (coming runs (goes w) is) (next-within (steady .ready) (runs .config) (runs .within)) in (
+            record { config = w .config; stands = stands; within = h .within; rest = ap (onHit t s (enough s) w) (sym quiet) ∙ whole runs (goes w) is },
+            rw (stands, runs .stands) (h .less),
+          )
 
-    pub runs-over : r .step ≡ Finished → Answers (record { state = r .state; answer = Done })
-    runs-over e = answers (λ r. record { state = r .state; answer = Done }) go
-      where
-        go : (x : Next ℕ) → r ≡ advancedBy (moved s c false) x
-            → steppedOf (record { state = advancedBy (moved s c false) x .state; answer = Done }) ≡ onNext t s (enough s) c x
-        go finished q = refl
-        go (wants at) q = absurd (let z : _≡_ {A = ℕ} 0 1 = cc (ap (λ r. r .step) q) in omega arith)
-        go (goes v) q = absurd (ever (hitIn (v .events)) (sym (ap (λ r. r .step) q) ∙ e))
-          where
-            ever : (h : Heard) → moveOf h ≡ Finished → ⊥
-            ever noHit e = let z : _≡_ {A = ℕ} 0 1 = cc in omega arith
-            ever (hitOf y j) e = let z : _≡_ {A = ℕ} 0 1 = cc in omega arith
+      runs-hit : (b i : ℕ) → hitIn (w .events) ≡ hitOf b i → Answers (record { state = r; answer = Hit b i })
+      runs-hit b i h =
+          ap (λ z. steppedOf (record { state = z; answer = Hit b i })) stands ∙ ap (onHit t s (enough s) w) (sym h) ∙ whole runs (goes w) is
 
-    pub runs-wants : (p : ℕ) → r .step ≡ Wants p → Answers (record { state = waiting (r .state); answer = Fetch p })
-    runs-wants p e = answers (λ r. record { state = waiting (r .state); answer = Fetch p }) go
-      where
-        go : (x : Next ℕ) → r ≡ advancedBy (moved s c false) x
-            → steppedOf (record { state = waiting (advancedBy (moved s c false) x .state); answer = Fetch p }) ≡ onNext t s (enough s) c x
-        go finished q = absurd (let z : _≡_ {A = ℕ} 0 1 = cc (ap (λ r. r .step) q) in omega arith)
-        go (wants at) q =
-            let z : p ≡ at = cc (ap (λ r. r .step) q) in
-            ap (λ p. steppedOf (record { state = moved s c true; answer = Fetch p })) z
-        go (goes v) q = absurd (ever (hitIn (v .events)) (sym (ap (λ r. r .step) q) ∙ e))
-          where
-            ever : (h : Heard) → moveOf h ≡ Wants p → ⊥
-            ever noHit e = let z : _≡_ {A = ℕ} 0 1 = cc in omega arith
-            ever (hitOf y j) e = let z : _≡_ {A = ℕ} 0 1 = cc in omega arith
+    pub runs-ends : Chosen t u End → (r : Scan) → r ≡ moved u (endRound (treeOf t u) (configOf u) none .config) (u .due)
+        → Onwards t s u r
+    runs-ends is r to = runs-on _ is r to refl
 
-    pub runs-hit : (b i : ℕ) → r .step ≡ Found b i → Answers (record { state = r .state; answer = Hit b i })
-    runs-hit b i e = answers (λ r. record { state = r .state; answer = Hit b i }) go
-      where
-        go : (x : Next ℕ) → r ≡ advancedBy (moved s c false) x
-            → steppedOf (record { state = advancedBy (moved s c false) x .state; answer = Hit b i }) ≡ onNext t s (enough s) c x
-        go finished q = absurd (let z : _≡_ {A = ℕ} 0 1 = cc (ap (λ r. r .step) q) in omega arith)
-        go (wants at) q = absurd (let z : _≡_ {A = ℕ} 0 1 = cc (ap (λ r. r .step) q) in omega arith)
-        go (goes v) q =
-            ap (onHit t s (enough s) v) (sym (heard (hitIn (v .events)) b i (sym (ap (λ r. r .step) q) ∙ e)))
+    module _ (x : ℕ) (is : Chosen t u (Take x)) (r : Taken) (q : r ≡ takenBy u (take (treeOf t u) (configOf u) x)) where
+      pub takes-on : r .found ≡ On → Onwards t s u (r .state)
+      takes-on f = runs-on _ is (r .state) (ap (λ r. r .state) q) (not-heard _ (sym (ap (λ r. r .found) q) ∙ f))
+
+      pub takes-hit : (b i : ℕ) → r .found ≡ Found b i → Answers (record { state = r .state; answer = Hit b i })
+      takes-hit b i f = runs-hit _ is (r .state) (ap (λ r. r .state) q) b i (heard _ b i (sym (ap (λ r. r .found) q) ∙ f))

@@ -4,7 +4,7 @@ use mathlib.Core.Path.{_≡_}
 use mathlib.Core.Bool.{true}
 use mathlib.Core.List.{List}
 use mathlib.Core.Option.{none}
-use Rattle.rules.specs.Rules.{Step, Next, finished, wants, goes, place, recalled, endRound, after, take, next}
+use Rattle.rules.specs.Rules.{Step, finished, wants, goes, place, recalled, endRound, after, take, next}
 use Rattle.trie.specs.Tables.{Tables}
 use Rattle.trie.specs.Answers.{tables}
 use Rattle.scan.specs.declared.Scan.{Scan}
@@ -52,26 +52,3 @@ Chosen t s End = next (treeOf t s) (s .image) (configOf s) ≡ goes (endRound (t
 Chosen t s (Take x) =
     let c = configOf s in
     next (treeOf t s) (s .image) c ≡ goes (after (recalled (place c)) (take (treeOf t s) c x))
-
--- A step: the state after it, and what it comes to.
-pub data Moved : Type 0 where
-  over : Moved
-  waits : ℕ → Moved
-  on : Moved
-  hits : ℕ → ℕ → Moved
-
-pub record Advanced : Type 0 where
-  pub state : Scan
-  pub step : Moved
-
-abbrev pub moveOf : Heard → Moved
-moveOf noHit = on
-moveOf (hitOf e i) = hits e i
-
-abbrev pub advancedBy : Scan → Next ℕ → Advanced
-advancedBy s finished = record { state = s; step = over }
-advancedBy s (wants at) = record { state = s; step = waits at }
-advancedBy s (goes w) = record { state = moved s (w .config) (s .due); step = moveOf (hitIn (w .events)) }
-
-abbrev pub advancedIn : Tables → Scan → Advanced
-advancedIn t s = advancedBy s (next (treeOf t s) (s .image) (configOf s))
