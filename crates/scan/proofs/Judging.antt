@@ -29,24 +29,25 @@ use Rattle.scan.specs.Laws.Kept.{ReadyFor, WithinFor, NextFor, Ample, am
 use Rattle.scan.proofs.Settling.{moved-steady, not-heard, heard}
 
 -- by whether the call is out of turn
-abbrev turned : Bool → Judged
+abbrev pub turned : Bool → Judged
 turned true = Refused OutOfTurn
 turned false = Admitted
 
-module _ (t : Tables) (s : Scan) (turn : Bool) (k : Tested) (is : testedOf k ≡ broken t (s .count)) where
-  pub judged-broken : (v : ℕ) → k ≡ Breaks v → judgedOf (Refused (Broken v)) ≡ judged t s turn
-  judged-broken v e = let b : broken t (s .count) ≡ some v = sym is ∙ ap testedOf e in cc
+module _ (t : Tables) (s : Scan) (turn : Bool) where
+  module _ (k : Tested) (is : testedOf k ≡ broken t (s .count)) where
+    pub judged-broken : (v : ℕ) → k ≡ Breaks v → judgedOf (Refused (Broken v)) ≡ judged t s turn
+    judged-broken v e = let b : broken t (s .count) ≡ some v = sym is ∙ ap testedOf e in cc
 
-  module _ (e : k ≡ Sound) where
-    pub unbroken : broken t (s .count) ≡ none
-    unbroken = sym is ∙ ap testedOf e
+    pub unbroken : k ≡ Sound → broken t (s .count) ≡ none
+    unbroken e = sym is ∙ ap testedOf e
 
+  module _ (b : broken t (s .count) ≡ none) where
     pub judged-out : inRange t s ≡ false → judgedOf (Refused OutOfRange) ≡ judged t s turn
-    judged-out r = let b = unbroken in cc
+    judged-out r = cc
 
     pub judged-turn : inRange t s ≡ true → (d : Bool) → outOfTurn s turn ≡ d → judgedOf (turned d) ≡ judged t s turn
-    judged-turn r true o = let b = unbroken in cc
-    judged-turn r false o = let b = unbroken in cc
+    judged-turn r true o = cc
+    judged-turn r false o = cc
 
 -- A state is settled as the state that it was moved from.
 module _ (t : Tables) (s : Scan) (r : ReadyFor t s) (c₀ : Config ℕ) (d : Bool) where
