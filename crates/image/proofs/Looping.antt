@@ -100,7 +100,7 @@ module _ {book image : List ℕ} {shortest : ℕ} {ends₀ tokens₀ ends tokens
   rounding-begun h = record { at = at; known = known; place = refl; so-far = refl; inside = h }
 
   pub rounding-again : {after : Standing} {ends′ tokens′ nodes′ bytes′ skip′ pairs′ : List ℕ}
-      → Goes book image at after (room ends tokens) ends ends′ tokens tokens′ → Caches book image shortest nodes′ bytes′ skip′ pairs′
+      → Goes book image at after ends ends′ tokens tokens′ → Caches book image shortest nodes′ bytes′ skip′ pairs′
       → Rounding book image shortest ends₀ tokens₀ ends′ tokens′ nodes′ bytes′ skip′ pairs′ after
   rounding-again {ends′ = ends′} {tokens′} g c =
       let r : room ends tokens ≡ room ends₀ tokens₀ = omega (arith, ends-long, tokens-long) in
@@ -109,9 +109,9 @@ module _ {book image : List ℕ} {shortest : ℕ} {ends₀ tokens₀ ends tokens
         stands = g .stands (l .found) (l .stands);
         caches = c;
         ends-hold = part-on (λ h. h .0) (room ends₀ tokens₀) (l .found) (g .more) (at .hits) (room ends tokens) ends₀ ends ends′
-            (l .stands .counted) r (l .ends-hold) (g .ends-hold);
+            (l .stands .counted) r (l .ends-hold) (g .noted .ends-hold);
         tokens-hold = part-on (λ h. h .1) (room ends₀ tokens₀) (l .found) (g .more) (at .hits) (room ends tokens) tokens₀ tokens tokens′
-            (l .stands .counted) r (l .tokens-hold) (g .tokens-hold);
+            (l .stands .counted) r (l .tokens-hold) (g .noted .tokens-hold);
       }
 
   -- what the contract says at the end

@@ -13,7 +13,7 @@ use Rattle.trie.specs.declared.Child.{Child}
 use Rattle.trie.specs.declared.Child.the-variants.{At, Absent}
 use Rattle.image.specs.Image.{room}
 use Rattle.image.specs.Rounds.{mark, passed, met}
-use Rattle.image.specs.Walk.{treeIn, Walkable, note, notes}
+use Rattle.image.specs.Walk.{treeIn, Walkable, note, notes, Noted}
 use Rattle.image.specs.Laws.Notes.{note-length}
 use Rattle.image.proofs.Children.{child-in, child-below}
 use Rattle.image.proofs.Steps.{passed-stop, passed-shut, passed-on, mark-some}
@@ -63,14 +63,12 @@ module _ {label token first next : List ℕ} {count : ℕ} (t : Walkable label t
       (l : Marking label token first next image count b hits ends₀ tokens₀ ends tokens node depth n) where
     -- what the contract says of the count and the buffers
     abbrev pub Marked : Type 0
-    Marked = (n ≡ hits + length (met tree image b))
-        × ((ends ≡ notes (room ends₀ tokens₀) hits (map (λ h. h .0) (met tree image b)) ends₀)
-        × (tokens ≡ notes (room ends₀ tokens₀) hits (map (λ h. h .1) (met tree image b)) tokens₀))
+    Marked = Noted ends₀ tokens₀ hits (met tree image b) ends tokens n
 
     over-now : passed tree image b (suc (b - depth)) node depth ≡ [] → Marked
     over-now e =
         let z = subst (Noting ends₀ tokens₀ hits (met tree image b) ends tokens n) e (l .noting) in
-        (omega (arith, z .number), (z .ends-left, z .tokens-left))
+        record { number = omega (arith, z .number); ends-hold = z .ends-left; tokens-hold = z .tokens-left }
 
     pub marking-done : (tree .leaf node || eqb depth b) ≡ true → Marked
     marking-done h = over-now (passed-stop tree image b (b - depth) node depth h)

@@ -3,7 +3,7 @@ use Prim.Native.Nat.{ℕ, suc, _+_, _^_, _≤_, _<_}
 use native.Mathlib.Omega.{arith}
 use mathlib.Core.Path.{_≡_, refl, ap, sym, subst, _∙_}
 use mathlib.Core.Bool.{false}
-use mathlib.Core.List.{List, _++_, map}
+use mathlib.Core.List.{List, _++_}
 use mathlib.Core.Option.{Option, some, none}
 use lib.ListN.{length}
 use Rattle.rules.specs.Rules.{Tree}
@@ -14,7 +14,7 @@ use Rattle.trie.specs.Answers.{tables}
 use Rattle.image.specs.declared.walk.Arrival.{Arrival}
 use Rattle.image.specs.Rounds.{reached, met}
 use Rattle.image.specs.Rule5.{tokensOf, closingOf}
-use Rattle.image.specs.Walk.{treeIn, Walkable, stopOf, arrivalOf, notes}
+use Rattle.image.specs.Walk.{treeIn, Walkable, stopOf, arrivalOf, Noted}
 use Rattle.image.specs.Sweeping.{Given, Standing, Stands, Known, Begun}
 use Rattle.image.specs.Laws.Round.{unmet-none}
 use Rattle.image.specs.Laws.Tables.{walkable, reached-same, met-same}
@@ -22,24 +22,20 @@ use Rattle.image.specs.Laws.Sweeping.{hits-small, turns}
 use Rattle.image.proofs.Turning.{Arrives, Turned}
 
 -- A round that met no token puts nothing into the buffers.
-pub meets-none : (tree : Tree ℕ) (image : List ℕ) (b hits room : ℕ) (ends tokens : List ℕ)
+pub meets-none : (tree : Tree ℕ) (image : List ℕ) (b hits : ℕ) (ends tokens : List ℕ)
     → (arrival : Arrival) → arrival ≡ arrivalOf (reached tree image b) → arrival .marked ≡ false
-    → (hits ≡ hits + length (met tree image b))
-    × ((ends ≡ notes room hits (map (λ h. h .0) (met tree image b)) ends) × (tokens ≡ notes room hits (map (λ h. h .1) (met tree image b)) tokens))
-meets-none tree image b hits room ends tokens arrival e h =
+    → Noted ends tokens hits (met tree image b) ends tokens hits
+meets-none tree image b hits ends tokens arrival e h =
     let unmarked : reached tree image b .marked ≡ false = sym (ap (λ (r : Arrival). r .marked) e) ∙ h in
-    subst
-    (λ found. (hits ≡ hits + length found)
-    × ((ends ≡ notes room hits (map (λ h. h .0) found) ends) × (tokens ≡ notes room hits (map (λ h. h .1) found) tokens)))
+    subst (λ found. Noted ends tokens hits found ends tokens hits)
     (sym (unmet-none tree image b (suc b) (tree .root) 0 false unmarked .1))
-    (omega arith, (refl, refl))
+    (record { number = omega arith; ends-hold = refl; tokens-hold = refl })
 
 -- From one standing to another, with more hits put into the buffers.
-pub record Goes (book image : List ℕ) (at after : Standing) (room : ℕ) (ends ends′ tokens tokens′ : List ℕ) : Type 0 where
+pub record Goes (book image : List ℕ) (at after : Standing) (ends ends′ tokens tokens′ : List ℕ) : Type 0 where
   pub more : List (ℕ × ℕ)
   pub stands : (found : List (ℕ × ℕ)) → Stands book image at found → Stands book image after (found ++ more)
-  pub ends-hold : ends′ ≡ notes room (at .hits) (map (λ h. h .0) more) ends
-  pub tokens-hold : tokens′ ≡ notes room (at .hits) (map (λ h. h .1) more) tokens
+  pub noted : Noted ends tokens (at .hits) more ends′ tokens′ (after .hits)
 
 -- Where a round begins.
 module _ {book image : List ℕ} {b hits : ℕ} (s : Begun book image b hits) where
@@ -94,16 +90,13 @@ module _ {book image label token first next : List ℕ} {count shortest : ℕ} (
         })
 
     -- And it goes on from there with what it met.
-    module _ {after : Standing} {hits : ℕ} (w : Turned book image at after hits) where
-      pub round-goes : hits ≡ at .hits + length (met here image b) → (room : ℕ) (ends ends′ tokens tokens′ : List ℕ)
-          → ends′ ≡ notes room (at .hits) (map (λ h. h .0) (met here image b)) ends
-          → tokens′ ≡ notes room (at .hits) (map (λ h. h .1) (met here image b)) tokens → Goes book image at after room ends ends′ tokens tokens′
-      round-goes n room ends ends′ tokens tokens′ e q =
-          let same = met-same (tokensOf book) S t count (g .stands) image b in
-          record {
-            more = met here image b;
-            stands = λ found s.
-                rw same (turns book image at found s h after (w .boundary) (w .spans) (w .few) (w .fetched) (w .counted ∙ rw same at n));
-            ends-hold = e;
-            tokens-hold = q;
-          }
+    pub round-goes : {after : Standing} → Turned book image at after (after .hits) → {ends ends′ tokens tokens′ : List ℕ}
+        → Noted ends tokens (at .hits) (met here image b) ends′ tokens′ (after .hits) → Goes book image at after ends ends′ tokens tokens′
+    round-goes {after} w n =
+        let same = met-same (tokensOf book) S t count (g .stands) image b in
+        record {
+          more = met here image b;
+          stands = λ found s.
+              rw same (turns book image at found s h after (w .boundary) (w .spans) (w .few) (w .fetched) (w .counted ∙ rw same at (n .number)));
+          noted = n;
+        }

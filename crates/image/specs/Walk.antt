@@ -2,7 +2,7 @@
 use Prim.Native.Nat.{ℕ, _+_, _≤_, _<_}
 use mathlib.Core.Path.{_≡_}
 use mathlib.Core.Bool.{true, false}
-use mathlib.Core.List.{List, [], _∷_}
+use mathlib.Core.List.{List, [], _∷_, map}
 use mathlib.Core.Option.{Option, some, none}
 use lib.Dec.{ltb, eqb}
 use lib.ListN.{length, getD, set}
@@ -12,6 +12,7 @@ use Rattle.trie.specs.Answers.{tables}
 use Rattle.image.specs.declared.walk.Stop.{Stop}
 use Rattle.image.specs.declared.walk.Stop.the-variants.{Byte, Nothing}
 use Rattle.image.specs.declared.walk.Arrival.{Arrival}
+use Rattle.image.specs.Image.{room}
 use Rattle.image.specs.Rounds.{Reached}
 
 -- The tree of the four tables that a round reads; S plays no part in it.
@@ -53,3 +54,10 @@ note room i x l = elim (ltb i room) [ true ↦ set l i x | false ↦ l ]
 abbrev pub notes : ℕ → ℕ → List ℕ → List ℕ → List ℕ
 notes room i [] l = l
 notes room i (x ∷ xs) l = notes room (i + 1) xs (note room i x l)
+
+-- The hits found stand in two lists of ends and tokens, behind the `hits` before them and as far as both lists have room; n are
+-- there then.
+pub record Noted (ends₀ tokens₀ : List ℕ) (hits : ℕ) (found : List (ℕ × ℕ)) (ends tokens : List ℕ) (n : ℕ) : Type 0 where
+  pub number : n ≡ hits + length found
+  pub ends-hold : ends ≡ notes (room ends₀ tokens₀) hits (map (λ h. h .0) found) ends₀
+  pub tokens-hold : tokens ≡ notes (room ends₀ tokens₀) hits (map (λ h. h .1) found) tokens₀

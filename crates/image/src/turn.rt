@@ -2,12 +2,11 @@
 ghost use Prim.Native.Nat.{ℕ, _+_, _*_, _≤_};
 ghost use mathlib.Core.Path.{_≡_};
 ghost use mathlib.Core.Bool.{_&&_};
-ghost use mathlib.Core.List.{List, map};
+ghost use mathlib.Core.List.{List};
 ghost use lib.Dec.{eqb, ltb};
 ghost use lib.ListN.{length};
-ghost use Rattle.image.specs.Image.{room};
 ghost use Rattle.image.specs.Rounds.{met};
-ghost use Rattle.image.specs.Walk.{treeIn, Kids, notes};
+ghost use Rattle.image.specs.Walk.{treeIn, Kids, Noted};
 ghost use Rattle.image.specs.Rule5.{BySkip};
 ghost use Rattle.image.specs.Sweeping.{lowestOf, Learns, Given, ByPair, Sees, Caches, Begun, Ended};
 use crate::caches;
@@ -99,12 +98,9 @@ pub fn attempt(
     requires kids { ⌜ Kids (now label) (now first) (now next) count (now kids) ⌝ }
     requires caches { ⌜ Caches (now book) (now image) shortest (now nodes) (now bytes) (now skip) (now pairs) ⌝ }
     ensures ended { λ r. ⌜ Ended (now (book .entry)) (now (image .entry)) b r ⌝ }
-    ensures hits { λ r. let found = met (treeIn (now (label .entry)) (now (token .entry)) (now (first .entry)) (now (next .entry)) count) (now (image .entry)) b in
-        ⌜ r .hits ≡ hits + length found ⌝ }
-    ensures ends { λ r. let found = met (treeIn (now (label .entry)) (now (token .entry)) (now (first .entry)) (now (next .entry)) count) (now (image .entry)) b in
-        ⌜ now (ends .exit) ≡ notes (room (now (ends .entry)) (now (tokens .entry))) hits (map (λ h. h .0) found) (now (ends .entry)) ⌝ }
-    ensures tokens { λ r. let found = met (treeIn (now (label .entry)) (now (token .entry)) (now (first .entry)) (now (next .entry)) count) (now (image .entry)) b in
-        ⌜ now (tokens .exit) ≡ notes (room (now (ends .entry)) (now (tokens .entry))) hits (map (λ h. h .1) found) (now (tokens .entry)) ⌝ }
+    ensures hits { λ r.
+        let found = met (treeIn (now (label .entry)) (now (token .entry)) (now (first .entry)) (now (next .entry)) count) (now (image .entry)) b in
+        ⌜ Noted (now (ends .entry)) (now (tokens .entry)) hits found (now (ends .exit)) (now (tokens .exit)) (r .hits) ⌝ }
     ensures caches { λ r. ⌜ Caches (now (book .entry)) (now (image .entry)) shortest (now (nodes .exit)) (now (bytes .exit)) (now (skip .exit)) (now (pairs .exit)) ⌝ }
 {
     let met = meet(

@@ -1,14 +1,14 @@
 // A round's way down the tree, and the hits on it.
 ghost use Prim.Native.Nat.{ℕ, _+_, _*_, _^_, _≤_, _<_};
 ghost use mathlib.Core.Path.{_≡_};
-ghost use mathlib.Core.List.{[], map};
+ghost use mathlib.Core.List.{[]};
 ghost use mathlib.Core.Option.{some};
 ghost use lib.ListN.{length};
 ghost use Rattle.trie.specs.Walks.{childBy};
 ghost use Rattle.trie.specs.Answers.{tables, childOf};
 ghost use Rattle.image.specs.Image.{room};
 ghost use Rattle.image.specs.Rounds.{reached, met};
-ghost use Rattle.image.specs.Walk.{treeIn, Walkable, numberOf, Kids, arrivalOf, note, notes};
+ghost use Rattle.image.specs.Walk.{treeIn, Walkable, numberOf, Kids, arrivalOf, note, Noted};
 use trie::Child;
 
 // What ended a round: a byte that no child has, or nothing.
@@ -139,12 +139,9 @@ fn mark(
 ) -> usize
     requires place { ⌜ (0 < b) × (b ≤ length (now image)) × (b ≤ 16777216) × (hits ≤ 1024 * 1024 * 1024 * 1024) ⌝ }
     requires tables { ⌜ Walkable (now label) (now token) (now first) (now next) count ⌝ }
-    ensures hits { λ r. let found = met (treeIn (now (label .entry)) (now (token .entry)) (now (first .entry)) (now (next .entry)) count) (now (image .entry)) b in
-        ⌜ r ≡ hits + length found ⌝ }
-    ensures ends { λ r. let found = met (treeIn (now (label .entry)) (now (token .entry)) (now (first .entry)) (now (next .entry)) count) (now (image .entry)) b in
-        ⌜ now (ends .exit) ≡ notes (room (now (ends .entry)) (now (tokens .entry))) hits (map (λ h. h .0) found) (now (ends .entry)) ⌝ }
-    ensures tokens { λ r. let found = met (treeIn (now (label .entry)) (now (token .entry)) (now (first .entry)) (now (next .entry)) count) (now (image .entry)) b in
-        ⌜ now (tokens .exit) ≡ notes (room (now (ends .entry)) (now (tokens .entry))) hits (map (λ h. h .1) found) (now (tokens .entry)) ⌝ }
+    ensures { λ r.
+        let found = met (treeIn (now (label .entry)) (now (token .entry)) (now (first .entry)) (now (next .entry)) count) (now (image .entry)) b in
+        ⌜ Noted (now (ends .entry)) (now (tokens .entry)) hits found (now (ends .exit)) (now (tokens .exit)) r ⌝ }
 {
     let mut node = 0;
     let mut depth = 0;
@@ -192,12 +189,9 @@ pub fn meet(
     requires tables { ⌜ Walkable (now label) (now token) (now first) (now next) count ⌝ }
     requires kids { ⌜ Kids (now label) (now first) (now next) count (now kids) ⌝ }
     ensures arrival { λ r. ⌜ r .arrival ≡ arrivalOf (reached (treeIn (now (label .entry)) (now (token .entry)) (now (first .entry)) (now (next .entry)) count) (now (image .entry)) b) ⌝ }
-    ensures hits { λ r. let found = met (treeIn (now (label .entry)) (now (token .entry)) (now (first .entry)) (now (next .entry)) count) (now (image .entry)) b in
-        ⌜ r .hits ≡ hits + length found ⌝ }
-    ensures ends { λ r. let found = met (treeIn (now (label .entry)) (now (token .entry)) (now (first .entry)) (now (next .entry)) count) (now (image .entry)) b in
-        ⌜ now (ends .exit) ≡ notes (room (now (ends .entry)) (now (tokens .entry))) hits (map (λ h. h .0) found) (now (ends .entry)) ⌝ }
-    ensures tokens { λ r. let found = met (treeIn (now (label .entry)) (now (token .entry)) (now (first .entry)) (now (next .entry)) count) (now (image .entry)) b in
-        ⌜ now (tokens .exit) ≡ notes (room (now (ends .entry)) (now (tokens .entry))) hits (map (λ h. h .1) found) (now (tokens .entry)) ⌝ }
+    ensures hits { λ r.
+        let found = met (treeIn (now (label .entry)) (now (token .entry)) (now (first .entry)) (now (next .entry)) count) (now (image .entry)) b in
+        ⌜ Noted (now (ends .entry)) (now (tokens .entry)) hits found (now (ends .exit)) (now (tokens .exit)) (r .hits) ⌝ }
 {
     let arrival = descend(image, label, token, first, next, count, kids, b);
     if !arrival.marked {

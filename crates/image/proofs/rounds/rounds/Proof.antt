@@ -1,11 +1,10 @@
 -- `rounds` meets its contract: the buffers hold the hits found so far (`Rounding`), and the boundary rises.
 use Prim.Native.Nat.{_+_, _-_, _^_, _≤_}
 use native.Mathlib.Omega.{arith}
-use mathlib.Core.Path.{refl, sym, _∙_}
+use mathlib.Core.Path.{_≡_, refl, sym, _∙_}
 use mathlib.Core.Logic.{⊎-elim}
 use borrow.Author.Needs.{needs}
 use lib.ListN.{length}
-use Rattle.image.specs.Image.{room}
 use Rattle.image.specs.Sweeping.{Standing}
 use Rattle.image.proofs.Turning.{Turned, ended-numbers, ended-fits, ended-few, ended-loose, turned, turned-bare, turned-as}
 use Rattle.image.proofs.Rounding.{round-goes}
@@ -60,19 +59,21 @@ next j = let m = tried j in
     (λ w2. turned-as (w2 .5) (w2 .6) (turned k (inside m) w e (w2 .4 .result) (w2 .1 .result) hits (w2 .4 .ensures) (w2 .1 .ensures)))
     (j .if1 .came)
 
-again : (j : tie.Joined1 Inv-loop μ-loop) → let m = tried j in
-    let a = start (turn m) .args in
+-- What then holds there: the buffers have what was found, and the caches are right.
+abbrev Holds : tie.After-attempt Inv-loop μ-loop → Standing → Type 0
+Holds m after = let a = start (turn m) .args in
     let l = m .attempt .last .1 .1 .1 .1 .1 .1 .1 .1 .1 .1 .1 in
-    Rounding (a .book .now) (a .image .now) (a .shortest) (a .ends .now) (a .tokens .now) (l .0) (l .1 .0) (l .1 .1 .0) (l .1 .1 .1 .0) (l .1 .1 .1 .1 .0) (l .1 .1 .1 .1 .1 .0)
-    (record { boundary = turn m .loop .b + m .attempt .result .by; spans = j .if1 .spans; fetched = j .if1 .fetched; hits = m .attempt .result .hits })
-again j = let m = tried j in
-    let c = turn m in
-    let l = m .attempt .last .1 .1 .1 .1 .1 .1 .1 .1 .1 .1 .1 in
+    Rounding (a .book .now) (a .image .now) (a .shortest) (a .ends .now) (a .tokens .now) (l .0) (l .1 .0) (l .1 .1 .0) (l .1 .1 .1 .0) (l .1 .1 .1 .1 .0) (l .1 .1 .1 .1 .1 .0) after
+
+holds : (m : tie.After-attempt Inv-loop μ-loop) (after : Standing) → after .hits ≡ m .attempt .result .hits
+    → Turned (start (turn m) .args .book .now) (start (turn m) .args .image .now) (here (turn m)) after (after .hits) → Holds m after
+holds m after e w = let c = turn m in
     let f = m .attempt .ensures .1 in
-    rounding-again (c .loop .inv)
-    (round-goes (start c .pre .0) (known (c .loop .inv)) (inside m) (next j) (f .0) (room (c .loop .ends) (c .loop .tokens))
-    (c .loop .ends) (l .0) (c .loop .tokens) (l .1 .0) (f .1 .0) (f .1 .1 .0))
-    (f .1 .1 .1)
+    rounding-again (c .loop .inv) (round-goes (start c .pre .0) (known (c .loop .inv)) (inside m) w (rw e (f .0))) (f .1)
+
+again : (j : tie.Joined1 Inv-loop μ-loop) → let m = tried j in
+    Holds m (record { boundary = turn m .loop .b + m .attempt .result .by; spans = j .if1 .spans; fetched = j .if1 .fetched; hits = m .attempt .result .hits })
+again j = holds (tried j) _ refl (next j)
 
 none-requires : tie.Need-none-requires Inv-loop μ-loop
 none-requires c κs = search needs

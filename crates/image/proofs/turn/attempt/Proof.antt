@@ -96,24 +96,17 @@ returns c =
     let a = arrives m in
     let k = s .pre .1 .1 .1 in
     let by = h .shift .result in
-    let e = h .shift .ensures .0 in
-    let f = m .meet .ensures .1 in (
+    let e = h .shift .ensures .0 in (
       ended a by e (c .lowest .result) (m .meet .result .hits) (c .lowest .ensures),
       (
-        f .0,
-        (
-          f .1 .0,
-          (
-            f .1 .1,
-            record {
-              size = h .shift .ensures .1 .1 ∙ k .size;
-              by-node = h .shift .ensures .1 .0 .0;
-              by-byte = h .shift .ensures .1 .0 .1;
-              by-skip = c .before .before .before .before .before .before .before .before .learn .ensures (s .args .book .now) (s .args .shortest) (learns a by e) (k .by-skip);
-              by-pair = c .before .before .before .learn-pair .ensures (s .args .book .now) (s .args .image .now) (sees a by e _ refl) (k .by-pair);
-            },
-          ),
-        ),
+        m .meet .ensures .1,
+        record {
+          size = h .shift .ensures .1 .1 ∙ k .size;
+          by-node = h .shift .ensures .1 .0 .0;
+          by-byte = h .shift .ensures .1 .0 .1;
+          by-skip = c .before .before .before .before .before .before .before .before .learn .ensures (s .args .book .now) (s .args .shortest) (learns a by e) (k .by-skip);
+          by-pair = c .before .before .before .learn-pair .ensures (s .args .book .now) (s .args .image .now) (sees a by e _ refl) (k .by-pair);
+        },
       ),
     )
 

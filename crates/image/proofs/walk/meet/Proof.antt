@@ -1,7 +1,6 @@
 -- `meet` meets its contract: a round that met no token puts nothing into the buffers.
 use borrow.Author.Needs.{needs}
 use borrow.Author.Tests.{not-true}
-use Rattle.image.specs.Image.{room}
 use Rattle.image.specs.Walk.{treeIn}
 use Rattle.image.proofs.Rounding.{meets-none}
 use Rattle.image.proofs.walk.meet.Statement.{statement}
@@ -12,8 +11,7 @@ returns c = let d = c .before .before in
     let a = d .before .before .before .before .before .before .before .before .before .args in (
       d .descend .ensures,
       meets-none (treeIn (a .label .now) (a .token .now) (a .first .now) (a .next .now) (a .count)) (a .image .now) (a .b) (a .hits)
-          (room (a .ends .now) (a .tokens .now)) (a .ends .now) (a .tokens .now)
-          (d .descend .result) (d .descend .ensures) (not-true _ (c .if1 .taken)),
+          (a .ends .now) (a .tokens .now) (d .descend .result) (d .descend .ensures) (not-true _ (c .if1 .taken)),
     )
 
 pub meet-spec : {M : Type 1} → statement M
