@@ -1,14 +1,24 @@
 -- `remember` meets its contract: the stretches that stay, and the new one behind them if it is kept.
 use Prim.Native.Nat.{_-_}
 use native.Mathlib.Omega.{arith}
+use mathlib.Core.Path.{sym, _∙_}
 use borrow.Author.Tests.{not-true, not-false}
-use Rattle.rules.specs.Laws.Remember.{lie-later, new-lies}
+use Rattle.rules.specs.Rules.{leftOver}
+use Rattle.rules.specs.Laws.Limit.Span.{cut-ge}
+use Rattle.rules.specs.Laws.Remember.{lie-later}
 use Rattle.scan.specs.State.{used}
-use Rattle.scan.proofs.Recalling.{via}
-use Rattle.scan.proofs.Ending.{edge-from, ends-full, ends-dropped, ends-put}
+use Rattle.scan.proofs.Ending.{Ended, new-before, ends-full, ends-dropped, ends-put}
 use borrow.Author.Needs.{needs}
 use Rattle.scan.proofs.stretches.remember.Statement.{statement}
 use Rattle.scan.proofs.stretches.remember.Tie as tie
+
+abbrev start : tie.After-lift → tie.Start
+start c = c .before .before .before .before
+
+ended : (c : tie.After-lift) → let a = start c .args in
+    Ended (a .parent .now) (used (a .slots)) (a .node) (a .depth) (a .boundary) (a .next) (c .before .before .edge .result) (c .lift .result) (c .before .held .result)
+ended c = let p = start c .pre .1 .1 in
+    record { ends = p .1; lie = p .0; edge = c .before .before .edge .ensures; lift = c .lift .ensures; held = c .before .held .ensures }
 
 sub-from : tie.Need-sub-from
 sub-from c = search needs
@@ -18,58 +28,31 @@ edge-requires c κs = search needs
 
 held-requires : tie.Need-held-requires
 held-requires c κs = let s = c .before .before in
-    let a = s .args in
     let ends = s .pre .1 .1 .1 in
-    (s .pre .1 .0, lie-later (a .boundary) (a .next) (ends .moves) (ends .small) (used (a .slots)) (s .pre .1 .1 .0))
+    (s .pre .1 .0, lie-later (s .args .boundary) (s .args .next) (ends .moves) (ends .small) (used (s .args .slots)) (s .pre .1 .1 .0))
 
 sub-lift : tie.Need-sub-lift
-sub-lift c = let s = c .before .before .before in
-    let a = s .args in
-    let e = c .before .edge in
-    edge-from (a .parent .now) (used (a .slots)) (a .node) (a .depth) (a .boundary) (a .next) (s .pre .1 .1 .1) (s .pre .1 .1 .0) (e .result) (e .ensures)
+sub-lift c = let a = c .before .before .before .args in
+    omega (arith, c .before .edge .ensures, cut-ge (a .boundary - a .depth) (leftOver (a .boundary - a .depth) (used (a .slots))))
 
 lift-requires : tie.Need-lift-requires
 lift-requires c κs = search needs
 
 returns : tie.Need-returns
-returns c = let s = c .before .before .before .before .before .before .before in
-    let a = s .args in
-    let e = c .before .before .before .before .before .edge in
-    let h = c .before .before .before .before .held in
-    let l = c .before .before .before .lift in
-    ends-full (a .parent .now) (used (a .slots)) (a .node) (a .depth) (a .boundary) (a .next) (s .pre .1 .1 .1) (s .pre .1 .1 .0)
-    (e .result) (e .ensures) (l .result) (l .ensures) (h .result) (h .ensures) (c .before .if1 .taken)
+returns c = ends-full (ended (c .before .before .before)) (c .before .if1 .taken)
 
 keeps-requires : tie.Need-keeps-requires
-keeps-requires c κs = let s = c .before .before .before .before .before .before in
-    let a = s .args in
-    let e = c .before .before .before .before .edge in
-    let ends = s .pre .1 .1 .1 in
-    new-lies (a .boundary) (a .next) (ends .moves) (ends .small) (used (a .slots)) (s .pre .1 .1 .0) (a .boundary - a .depth)
-    (e .result) (c .before .before .lift .result) (omega arith) (e .ensures)
+keeps-requires c κs = new-before (ended (c .before .before))
 
 returns-2 : tie.Need-returns-2
-returns-2 c = let s = c .before .before .before .before .before .before .before .before .before in
-    let a = s .args in
-    let e = c .before .before .before .before .before .before .before .edge in
-    let h = c .before .before .before .before .before .before .held in
-    let l = c .before .before .before .before .before .lift in
-    let k = c .before .before .keeps in
-    ends-dropped (a .parent .now) (used (a .slots)) (a .node) (a .depth) (a .boundary) (a .next) (s .pre .1 .1 .1) (s .pre .1 .1 .0)
-    (e .result) (e .ensures) (l .result) (l .ensures) (h .result) (h .ensures) (via (k .result) (k .ensures) (not-true _ (c .before .if2 .taken)))
+returns-2 c = ends-dropped (ended (c .before .before .before .before .before)) (sym (c .before .before .keeps .ensures) ∙ not-true _ (c .before .if2 .taken))
 
 put-requires : tie.Need-put-requires
 put-requires c κs = search needs
 
 returns-3 : tie.Need-returns-3
-returns-3 c = let s = c .before .before .before .before .before .before .before .before .before .before in
-    let a = s .args in
-    let e = c .before .before .before .before .before .before .before .before .edge in
-    let h = c .before .before .before .before .before .before .before .held in
-    let l = c .before .before .before .before .before .before .lift in
-    let k = c .before .before .before .keeps in
-    ends-put (a .parent .now) (used (a .slots)) (a .node) (a .depth) (a .boundary) (a .next) (s .pre .1 .1 .1) (s .pre .1 .1 .0)
-    (e .result) (e .ensures) (l .result) (l .ensures) (h .result) (h .ensures) (via (k .result) (k .ensures) (not-false _ (c .before .before .if2 .left)))
+returns-3 c =
+    ends-put (ended (c .before .before .before .before .before .before)) (sym (c .before .before .before .keeps .ensures) ∙ not-false _ (c .before .before .if2 .left))
     (c .before .put .result) (c .before .put .ensures)
 
 pub remember-spec : {M : Type 1} → statement M
