@@ -1,24 +1,27 @@
--- The loops over the slots: those in use, one after the other; and the byte that is recalled from them.
+-- The loops over the slots: those in use, one after the other; the one that has a place; and the byte that is recalled from it.
 use Prim.Native.Nat.{ℕ, _+_, _-_, _≤_, _<_}
 use native.Mathlib.Numerals.{add-one}
 use native.Mathlib.Omega.{arith}
 use mathlib.Core.Path.{_≡_, refl, ap, sym, subst, _∙_}
-use mathlib.Core.Bool.{Bool, true, false}
+use mathlib.Core.Bool.{Bool, true, false, _||_}
 use mathlib.Core.List.{List, [], _∷_}
 use mathlib.Core.Option.{Option, some, none}
 use borrow.Author.Tests.{leb-true, ltb-true}
 use lib.Dec.{leb, ltb}
 use lib.ListN.{length, getD, drop, drop-of-length-le}
 use lib.Seq.{drop-cons}
+use Rattle.rules.specs.Lists.{any}
 use Rattle.rules.specs.Rules.{Stretch}
 use Rattle.rules.specs.Laws.Tests.{passed}
 use Rattle.rules.specs.Laws.All.{All}
 use Rattle.trie.specs.Walks.{depth, lifted}
 use Rattle.trie.specs.Laws.Shape.{way-lifts}
 use Rattle.scan.specs.declared.Stretch.{Stretch as Slot}
+use Rattle.scan.specs.declared.stretches.Holder.{Holder}
+use Rattle.scan.specs.declared.stretches.Holder.the-variants.{In, Nowhere}
 use Rattle.scan.specs.State.{stretchOf, unused, inUse, used}
-use Rattle.scan.specs.Ways.{paths, Rises}
-use Rattle.scan.specs.Memory.{covers, recallBy}
+use Rattle.scan.specs.Ways.{paths, Climbs}
+use Rattle.scan.specs.Memory.{covers, holding, holderOf, recallBy, Remembers}
 use Rattle.scan.specs.Laws.Within.{Fits}
 use Rattle.scan.specs.Laws.Ways.{lifted-alike}
 use Rattle.scan.proofs.Climbing.{falls}
@@ -47,54 +50,98 @@ module _ (slots : List Slot) (size : length slots ≡ 5) (i : ℕ) where
 pub via : {a b : Bool} (r : Bool) → r ≡ a → r ≡ b → a ≡ b
 via r e f = sym e ∙ f
 
--- What is left to look at, from slot i on.
-pub record Recalling (parent label : List ℕ) (slots : List Slot) (at count i : ℕ) : Type 0 where
-  pub upto : i ≤ 5
-  pub rest : recallBy parent label (restFrom slots i) at ≡ recallBy parent label (used slots) at
-  pub fits : All (Fits (paths parent label) count) (restFrom slots i)
+-- The search for a place: what is found from slot i on is what is found.
+module _ (at : ℕ) (slots : List Slot) (size : length slots ≡ 5) (i : ℕ) (r : holding at (restFrom slots i) ≡ holding at (used slots)) where
+  pub seek-none : restFrom slots i ≡ [] → none ≡ holding at (used slots)
+  seek-none e = sym (ap (holding at) e) ∙ r
 
-module _ {parent label : List ℕ} {slots : List Slot} {at count i : ℕ} (r : Recalling parent label slots at count i) where
-  pub recalling-none : restFrom slots i ≡ [] → none ≡ recallBy parent label (used slots) at
-  recalling-none e = sym (ap (λ ms. recallBy parent label ms at) e) ∙ r .rest
+  module _ (h : i < 5) (u : inUse (slotAt slots i) ≡ true) where
+    next : holding at (stretchOf (slotAt slots i) ∷ restFrom slots (i + 1)) ≡ holding at (used slots)
+    next = sym (ap (holding at) (more slots size i h u)) ∙ r
 
-  module _ (size : length slots ≡ 5) (h : i < 5) (held : inUse (slotAt slots i) ≡ true) where
-    abbrev m : Stretch ℕ
-    m = stretchOf (slotAt slots i)
+    pub seek-finds : covers at (stretchOf (slotAt slots i)) ≡ true → some (stretchOf (slotAt slots i)) ≡ holding at (used slots)
+    seek-finds c = cc next
 
-    both-fit : All (Fits (paths parent label) count) (m ∷ restFrom slots (i + 1))
-    both-fit = subst (All (Fits (paths parent label) count)) (more slots size i h held) (r .fits)
+    pub seek-again : covers at (stretchOf (slotAt slots i)) ≡ false → holding at (restFrom slots (i + 1)) ≡ holding at (used slots)
+    seek-again c = cc next
 
-    pub fits-here : Fits (paths parent label) count m
-    fits-here = both-fit .0
+-- Whether there is a stretch that has the place.
+abbrev holdsOf : Option (Stretch ℕ) → Bool
+holdsOf none = false
+holdsOf (some m) = true
 
-    -- by whether the place lies in the stretch
-    abbrev looked : Bool → Option ℕ
-    looked b = elim b [
-      | true ↦ some (getD label (lifted (paths parent label) (depth (paths parent label) (m .node) - 1 - (m .right - 1 - at)) (m .node)) 0)
-      | false ↦ recallBy parent label (restFrom slots (i + 1)) at
-    ]
+abbrev pub there : Holder → Bool
+there k = holdsOf (holderOf k)
 
-    looks : (b : Bool) → covers at m ≡ b → looked b ≡ recallBy parent label (used slots) at
-    looks b e = sym (ap looked e) ∙ sym (ap (λ ms. recallBy parent label ms at) (more slots size i h held)) ∙ r .rest
+module _ (at : ℕ) where
+  pub any-holds : (ms : List (Stretch ℕ)) (k : Holder) → holderOf k ≡ holding at ms → there k ≡ any (covers at) ms
+  any-holds ms k e = ap holdsOf e ∙ go ms
+    where
+      found : (b : Bool) (m : Stretch ℕ) (ms : List (Stretch ℕ)) → holdsOf (holding at ms) ≡ any (covers at) ms
+          → holdsOf (elim b [ true ↦ some m | false ↦ holding at ms ]) ≡ (b || any (covers at) ms)
+      found true m ms e = refl
+      found false m ms e = e
 
-    pub recalling-again : covers at m ≡ false → Recalling parent label slots at count (i + 1)
-    recalling-again e = record { upto = omega arith; rest = looks false e; fits = both-fit .1 }
+      go : (ms : List (Stretch ℕ)) → holdsOf (holding at ms) ≡ any (covers at) ms
+      go [] = refl
+      go (m ∷ ms) = found (covers at m) m ms (go ms)
 
-    pub inside : covers at m ≡ true → (m .left ≤ at) × (at < m .right)
-    inside e =
-        let p = passed (leb (m .left) at ∷ ltb at (m .right) ∷ []) e in
-        (leb-true (m .left) at (p 0), ltb-true at (m .right) (p 1))
+  -- What holds of all stretches holds of that one.
+  holds-in : (P : Stretch ℕ → Type 0) (ms : List (Stretch ℕ)) (m : Stretch ℕ) → All P ms → holding at ms ≡ some m → P m × (covers at m ≡ true)
+  holds-in P [] m h e = absurd (let z : _≡_ {A = ℕ} 0 1 = cc in omega arith)
+  holds-in P (x ∷ ms) m h e = go (covers at x) refl e (holds-in P ms m (h .1))
+    where
+      go : (b : Bool) → covers at x ≡ b → elim b [ true ↦ some x | false ↦ holding at ms ] ≡ some m
+          → (holding at ms ≡ some m → P m × (covers at m ≡ true)) → P m × (covers at m ≡ true)
+      go true c e f = let q : x ≡ m = cc in subst (λ m. P m × (covers at m ≡ true)) q (h .0, c)
+      go false c e f = f e
 
-    module _ (e : covers at m ≡ true) (v : ℕ) (up : v ≡ lifted (paths parent []) (at - m .left) (m .node)) where
-      same : v ≡ lifted (paths parent label) (at - m .left) (m .node)
-      same = up ∙ lifted-alike (paths parent []) (paths parent label) refl (at - m .left) (m .node)
+module _ (parent label : List ℕ) (ms : List (Stretch ℕ)) (at : ℕ) where
+  -- the byte of the place in that stretch
+  abbrev byteIn : Option (Stretch ℕ) → Option ℕ
+  byteIn none = none
+  byteIn (some m) = some (getD label (lifted (paths parent label) (depth (paths parent label) (m .node) - 1 - (m .right - 1 - at)) (m .node)) 0)
 
-      pub recalled-below : Rises parent count → v < count
-      recalled-below u =
-          subst (λ v. v < count) (sym same) (way-lifts (paths parent label) count (falls u label) (at - m .left) (m .node) (fits-here .0) .0)
+  recalls : byteIn (holding at ms) ≡ recallBy parent label ms at
+  recalls = go ms
+    where
+      found : (b : Bool) (m : Stretch ℕ) (ms : List (Stretch ℕ)) → byteIn (holding at ms) ≡ recallBy parent label ms at
+          → byteIn (elim b [ true ↦ some m | false ↦ holding at ms ]) ≡ elim b [ true ↦ byteIn (some m) | false ↦ recallBy parent label ms at ]
+      found true m ms e = refl
+      found false m ms e = e
 
-      pub recalled : some (getD label v 0) ≡ recallBy parent label (used slots) at
-      recalled =
-          let p = inside e in
-          let far : at - m .left ≡ depth (paths parent label) (m .node) - 1 - (m .right - 1 - at) = omega (arith, fits-here .1) in
-          ap (λ v. some (getD label v 0)) (same ∙ ap (λ n. lifted (paths parent label) n (m .node)) far) ∙ looks true e
+      go : (ms : List (Stretch ℕ)) → byteIn (holding at ms) ≡ recallBy parent label ms at
+      go [] = refl
+      go (m ∷ ms) = found (covers at m) m ms (go ms)
+
+  module _ (k : Holder) (is : holderOf k ≡ holding at ms) where
+    pub recalled-none : k ≡ Nowhere → none ≡ recallBy parent label ms at
+    recalled-none e = ap byteIn (sym (ap holderOf e) ∙ is) ∙ recalls
+
+    module _ (s : Slot) (e : k ≡ In s) (r : Remembers parent label ms) where
+      holds : Fits (paths parent label) (r .count) (stretchOf s) × (covers at (stretchOf s) ≡ true)
+      holds = holds-in at (Fits (paths parent label) (r .count)) ms (stretchOf s) (r .fits) (sym is ∙ ap holderOf e)
+
+      pub held-climbs : Climbs parent (s .node)
+      held-climbs = record { count = r .count; rises = r .rises; below = holds .0 .0 }
+
+      pub held-inside : (s .left ≤ at) × (at < s .right)
+      held-inside =
+          let p = passed (leb (s .left) at ∷ ltb at (s .right) ∷ []) (holds .1) in
+          (leb-true (s .left) at (p 0), ltb-true at (s .right) (p 1))
+
+      module _ (v : ℕ) (up : v ≡ lifted (paths parent []) (at - s .left) (s .node)) where
+        same : v ≡ lifted (paths parent label) (at - s .left) (s .node)
+        same = up ∙ lifted-alike (paths parent []) (paths parent label) refl (at - s .left) (s .node)
+
+        pub recalled-below : v < length label
+        recalled-below =
+            let b = way-lifts (paths parent label) (r .count) (falls (r .rises) label) (at - s .left) (s .node) (holds .0 .0) .0 in
+            omega (arith, same, b, r .labels)
+
+        pub recalled : some (getD label v 0) ≡ recallBy parent label ms at
+        recalled =
+            let p = held-inside in
+            let far : at - s .left ≡ depth (paths parent label) (s .node) - 1 - (s .right - 1 - at) = omega (arith, holds .0 .1) in
+            ap (λ v. some (getD label v 0)) (same ∙ ap (λ n. lifted (paths parent label) n (s .node)) far)
+            ∙ ap byteIn (sym (ap holderOf e) ∙ is) ∙ recalls

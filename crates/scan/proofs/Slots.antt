@@ -9,13 +9,11 @@ use borrow.Author.Tests.{eq-eqb, not-false}
 use lib.Dec.{leb, eqb}
 use lib.ListN.{length, getD, drop, drop-of-length-le}
 use lib.Seq.{drop-cons}
-use Rattle.rules.specs.Lists.{any}
 use Rattle.rules.specs.Rules.{Stretch}
 use Rattle.trie.specs.Tables.{Tables}
 use Rattle.scan.specs.declared.Scan.{Scan}
 use Rattle.scan.specs.declared.Stretch.{Stretch as Slot}
 use Rattle.scan.specs.State.{stretchOf, unused, inUse, used, laid, maxStretches, stretchOk, rising, sameSlots, stretchesOk}
-use Rattle.scan.specs.Memory.{covers}
 
 -- A walk over the slots that stands at slot i: what f says of the slots from there on, g says of all.
 pub record Walked (f g : List Slot → Bool) (slots : List Slot) (i : ℕ) : Type 0 where
@@ -33,21 +31,6 @@ module _ {f g : List Slot → Bool} {slots : List Slot} {i : ℕ} (w : Walked f 
 
   pub walk-end : maxStretches ≤ i → f [] ≡ g slots
   walk-end h = sym (ap f (drop-of-length-le slots {i = i} (omega (arith, w .long)))) ∙ w .rest
-
--- Whether a place lies in a stretch of the slots in use.
-abbrev pub seeks : ℕ → List Slot → Bool
-seeks at l = any (covers at) (used l)
-
-module _ (at : ℕ) {slots : List Slot} {i : ℕ} (w : Walked (seeks at) (seeks at) slots i) (h : i < maxStretches) where
-  pub seek-stops : inUse (getD slots i unused) ≡ false → false ≡ seeks at slots
-  seek-stops u = cc (walk-next w h)
-
-  pub seek-finds : inUse (getD slots i unused) ≡ true → covers at (stretchOf (getD slots i unused)) ≡ true → true ≡ seeks at slots
-  seek-finds u v = cc (walk-next w h)
-
-  pub seek-again : inUse (getD slots i unused) ≡ true → covers at (stretchOf (getD slots i unused)) ≡ false
-      → Walked (seeks at) (seeks at) slots (i + 1)
-  seek-again u v = walk-again w h (seeks at) cc
 
 -- Whether slots are in range that come behind others, of which the last in use ends at `from`, and one is unused if `over`.
 abbrev pub stands : Tables → Scan → Bool → ℕ → List Slot → Bool

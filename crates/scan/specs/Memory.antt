@@ -2,7 +2,7 @@
 use Prim.Native.Nat.{ℕ, _+_, _^_, _≤_, _<_}
 use mathlib.Core.Bool.{Bool, true, false, _&&_}
 use mathlib.Core.Path.{_≡_}
-use mathlib.Core.List.{List, []}
+use mathlib.Core.List.{List, [], _∷_}
 use mathlib.Core.Option.{Option, some, none}
 use lib.Dec.{leb, ltb}
 use lib.ListN.{length, set}
@@ -12,9 +12,11 @@ use Rattle.rules.specs.Laws.All.{All}
 use Rattle.trie.specs.Walks.{depth, ofTables}
 use Rattle.scan.specs.declared.Stretch.{Stretch as Slot}
 use Rattle.scan.specs.declared.stretches.Filled.{Filled}
+use Rattle.scan.specs.declared.stretches.Holder.{Holder}
+use Rattle.scan.specs.declared.stretches.Holder.the-variants.{In, Nowhere}
 use Rattle.scan.specs.declared.stretches.Recalled.{Recalled}
 use Rattle.scan.specs.declared.stretches.Recalled.the-variants.{Byte, Nothing}
-use Rattle.scan.specs.State.{maxStretches, laid}
+use Rattle.scan.specs.State.{maxStretches, stretchOf, laid}
 use Rattle.scan.specs.Ways.{paths, Rises}
 use Rattle.scan.specs.Laws.Within.{Fits}
 
@@ -26,6 +28,15 @@ recalledOf Nothing = none
 -- The place lies in the stretch.
 abbrev pub covers : {E : Type 0} → ℕ → Stretch E → Bool
 covers at m = leb (m .left) at && ltb at (m .right)
+
+-- The first stretch that has the place.
+abbrev pub holding : ℕ → List (Stretch ℕ) → Option (Stretch ℕ)
+holding at [] = none
+holding at (m ∷ ms) = elim (covers at m) [ true ↦ some m | false ↦ holding at ms ]
+
+abbrev pub holderOf : Holder → Option (Stretch ℕ)
+holderOf (In s) = some (stretchOf s)
+holderOf Nowhere = none
 
 -- Rule 2 asks nothing of the other tables, nor of the node count and S.
 abbrev pub recallBy : List ℕ → List ℕ → List (Stretch ℕ) → ℕ → Option ℕ

@@ -4,8 +4,9 @@ use crate::Scan;
 use crate::Stretch;
 use crate::spell::run_end;
 use crate::spell::wide;
-use crate::stretches::covers;
+use crate::stretches::Holder;
 use crate::stretches::in_use;
+use crate::stretches::seek;
 ghost use Prim.Native.Nat.{ℕ, _≤_, _<_};
 ghost use mathlib.Core.Path.{_≡_};
 ghost use mathlib.Core.Bool.{_&&_};
@@ -108,16 +109,11 @@ fn stretches_ok(parent: &[u16], scan: Scan) -> bool
 fn remembered(scan: Scan, at: usize) -> bool
     ensures { λ r. ⌜ r ≡ any (covers at) (used (scan .stretches)) ⌝ }
 {
-    for i in 0..5 {
-        let m = scan.stretches[i];
-        if !in_use(m) {
-            return false;
-        }
-        if covers(m, at) {
-            return true;
-        }
+    let slots = scan.stretches;
+    match seek(slots, at) {
+        Holder::In(_) => true,
+        Holder::Nowhere => false,
     }
-    false
 }
 
 // Whether a byte is due only where the rules fetch one: they are not done, the round goes on, and the place is not remembered.

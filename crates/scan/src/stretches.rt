@@ -8,7 +8,7 @@ ghost use Rattle.rules.specs.Laws.All.{All};
 ghost use Rattle.rules.specs.Laws.Remember.{Lies, fartherOf, stays, staying};
 ghost use Rattle.scan.specs.State.{stretchOf, inUse, used};
 ghost use Rattle.scan.specs.Ways.{Climbs};
-ghost use Rattle.scan.specs.Memory.{recalledOf, recallBy, Remembers, covers, putIn, siftIn, filledWith, Ends, rememberBy};
+ghost use Rattle.scan.specs.Memory.{recalledOf, recallBy, Remembers, covers, holding, holderOf, putIn, siftIn, filledWith, Ends, rememberBy};
 use crate::Stretch;
 use crate::spell;
 
@@ -41,25 +41,44 @@ pub fn covers(s: Stretch, at: usize) -> bool
     at < s.right
 }
 
+// The stretch that has a place, if one has.
+pub enum Holder {
+    In(Stretch),
+    Nowhere,
+}
+
+// The first of the slots in use that has the place.
+pub fn seek(slots: [Stretch; 5], at: usize) -> Holder
+    requires size { ⌜ length slots ≡ 5 ⌝ }
+    ensures { λ r. ⌜ holderOf r ≡ holding at (used slots) ⌝ }
+{
+    let mut i = 0;
+    while i < 5 {
+        let s = slots[i];
+        if !in_use(s) {
+            return Holder::Nowhere;
+        }
+        if covers(s, at) {
+            return Holder::In(s);
+        }
+        i += 1;
+    }
+    Holder::Nowhere
+}
+
 // Rule 2: the byte of a place that lies in a remembered stretch.
 pub fn recall(parent: &[u16], label: &[u8], slots: [Stretch; 5], at: usize) -> Recalled
     requires way { ⌜ Remembers (now parent) (now label) (used slots) ⌝ }
     requires size { ⌜ length slots ≡ 5 ⌝ }
     ensures { λ r. ⌜ recalledOf r ≡ recallBy (now (parent .entry)) (now (label .entry)) (used slots) at ⌝ }
 {
-    let mut i = 0;
-    while i < 5 {
-        let s = slots[i];
-        if !in_use(s) {
-            return Recalled::Nothing;
-        }
-        if covers(s, at) {
+    match seek(slots, at) {
+        Holder::Nowhere => Recalled::Nothing,
+        Holder::In(s) => {
             let v = spell::lift(parent, s.node, at - s.left);
-            return Recalled::Byte(label[v]);
+            Recalled::Byte(label[v])
         }
-        i += 1;
     }
-    Recalled::Nothing
 }
 
 // Slots, and how many of them are in use.
