@@ -7,7 +7,7 @@ ghost use Rattle.rules.specs.Tokens.{nodeShift, byteShift, shiftOf};
 ghost use Rattle.image.specs.Rule5.{tokensOf, Accepted, closingOf, nameOf, ByNode, ByByte};
 use crate::rule5;
 use crate::walk::Stop;
-use crate::walk::wide;
+use trie::entries::wide;
 
 // Byte shifts are kept for depths below this.
 const DEPTHS: usize = 64;

@@ -4,7 +4,7 @@ ghost use mathlib.Core.Path.{_≡_};
 ghost use mathlib.Core.Bool.{true};
 ghost use lib.ListN.{length};
 ghost use Rattle.image.specs.Sweeping.{Cached, Four, Paired, Skimmable, Skimmed};
-use crate::walk::wide;
+use trie::entries::wide;
 
 // How far such rounds lead, and how many bytes they looked at.
 pub struct Skipped {

@@ -1,5 +1,5 @@
 // A round's way down the tree, and the hits on it.
-ghost use Prim.Native.Nat.{ℕ, _+_, _*_, _^_, _≤_, _<_};
+ghost use Prim.Native.Nat.{ℕ, _*_, _^_, _≤_, _<_};
 ghost use mathlib.Core.Path.{_≡_};
 ghost use mathlib.Core.List.{[]};
 ghost use mathlib.Core.Option.{some};
@@ -10,6 +10,7 @@ ghost use Rattle.image.specs.Image.{room};
 ghost use Rattle.image.specs.Rounds.{reached, met};
 ghost use Rattle.image.specs.Walk.{treeIn, Walkable, numberOf, Kids, arrivalOf, note, Noted};
 use trie::Child;
+use trie::entries::wide;
 
 // What ended a round: a byte that no child has, or nothing.
 pub enum Stop {
@@ -23,13 +24,6 @@ pub struct Arrival {
     pub depth: usize,
     pub stop: Stop,
     pub marked: bool,
-}
-
-// A cast of an entry in a function of its own asks nothing of who reads it.
-pub fn wide(x: u16) -> usize
-    ensures { λ r. ⌜ r ≡ x ⌝ }
-{
-    x as usize
 }
 
 // A child's number, 0 for none.

@@ -3,10 +3,10 @@
 use crate::Scan;
 use crate::Stretch;
 use crate::spell::run_end;
-use crate::spell::wide;
 use crate::stretches::Holder;
 use crate::stretches::in_use;
 use crate::stretches::seek;
+use trie::entries::wide;
 ghost use Prim.Native.Nat.{ℕ, _≤_, _<_};
 ghost use mathlib.Core.Path.{_≡_};
 ghost use mathlib.Core.Bool.{_&&_};

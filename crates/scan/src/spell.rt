@@ -7,13 +7,7 @@ ghost use lib.ListN.{length};
 ghost use Rattle.trie.specs.Tables.{over};
 ghost use Rattle.trie.specs.Walks.{ending, depth, lifted};
 ghost use Rattle.scan.specs.Ways.{paths, Climbs, Spells, Along, Run};
-
-// The number of a node, as an index.
-pub fn wide(x: u16) -> usize
-    ensures { λ r. ⌜ r ≡ x ⌝ }
-{
-    x as usize
-}
+use trie::entries::wide;
 
 // How far an ending is written: up to index n, and what is left is the ending of `at`.
 pub struct Spot {

@@ -3,7 +3,7 @@
 mod breaks;
 pub mod chain;
 mod climbs;
-mod entries;
+pub mod entries;
 mod fill;
 mod grow;
 mod insert;

@@ -7,8 +7,8 @@ ghost use Rattle.trie.specs.Answers.{tables};
 ghost use Rattle.view.specs.View.{bodyOf, nodeOf};
 use book::Place;
 use entries::entry;
-use entries::label_at;
-use entries::wide;
+use trie::entries::label_at;
+use trie::entries::wide;
 
 // A node's five entries, and the place and length of its token's body; 0 for what there is not.
 pub struct Node {

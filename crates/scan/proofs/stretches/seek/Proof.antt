@@ -1,12 +1,11 @@
 -- `seek` meets its contract: the slots passed do not have the place.
 use Prim.Native.Nat.{_-_}
 use mathlib.Core.Path.{_≡_, refl, sym, _∙_}
-use mathlib.Core.Bool.{true}
 use borrow.Author.Tests.{not-true, not-false}
 use borrow.Author.Needs.{needs}
-use Rattle.scan.specs.State.{inUse, used}
+use Rattle.scan.specs.State.{used}
 use Rattle.scan.specs.Memory.{holding}
-use Rattle.scan.proofs.Recalling.{slotAt, restFrom, stop, past, seek-none, seek-finds, seek-again}
+use Rattle.scan.proofs.Recalling.{restFrom, stop, past, seek-none, seek-finds, seek-again}
 use Rattle.scan.proofs.stretches.seek.Statement.{statement}
 use Rattle.scan.proofs.stretches.seek.Tie as tie
 
