@@ -40,9 +40,10 @@ pub record Demand2 (tokens : List (List ℕ)) (image : List ℕ) (said : ℕ →
     pub fetches : placesIn whole ≡ places (happens tokens (length image) (bytesOf image))
     pub finds : hitsIn whole ≡ hits (happens tokens (length image) (bytesOf image))
     pub occurrences : Occurrences tokens image (hitsIn whole)
-    -- the whole image gives these hits and as many places: it answers their numbers (or refusal 12 with that of the hits), builds the
-    -- tables, and writes the hits as far as both buffers reach
-    pub counts : (ends numbers : List ℕ) → sweep ends numbers .answer ≡ counted (room ends numbers) (length (hitsIn whole)) (length (placesIn whole))
+    -- the whole image gives these hits and as many places: it answers their numbers, that of the hits by refusal 12 where they are too
+    -- many, builds the tables, and writes the hits as far as both buffers reach
+    pub counts : (ends numbers : List ℕ) → sweep ends numbers .answer ≡ counted (room ends numbers) (length (hitsIn whole))
+    pub counts-fetches : (ends numbers : List ℕ) → sweep ends numbers .fetched ≡ length (placesIn whole)
     pub builds : (ends numbers : List ℕ) → sweep ends numbers .tables ≡ written (built tokens) lent
     pub notes-ends : (ends numbers : List ℕ) → sweep ends numbers .ends ≡ noted (λ h. h .0) (room ends numbers) (hitsIn whole) ends
     pub notes-tokens : (ends numbers : List ℕ) → sweep ends numbers .tokens ≡ noted (λ h. h .1) (room ends numbers) (hitsIn whole) numbers

@@ -1,7 +1,7 @@
 -- Answers as numbers: refusal 0 means none, with value 0; on a refusal the numbers after its value are 0.
+use Prim.Native.Nat.{ℕ}
 use Rattle.book.specs.Book.{Verdict, accepted, refused}
 use Rattle.trie.specs.Tables.{Sizes}
-use Rattle.image.specs.Image.{Found}
 use Rattle.gateway.specs.declared.Built.{Built}
 use Rattle.gateway.specs.declared.Swept.{Swept}
 
@@ -9,6 +9,7 @@ abbrev pub builtOf : Verdict Sizes → Built
 builtOf (accepted s) = record { refusal = 0; value = 0; nodes = s .nodes; shortest = s .shortest; longest = s .longest }
 builtOf (refused k v) = record { refusal = k; value = v; nodes = 0; shortest = 0; longest = 0 }
 
-abbrev pub sweptOf : Verdict Found → Swept
-sweptOf (accepted f) = record { refusal = 0; value = 0; hits = f .hits; fetched = f .fetched }
-sweptOf (refused k v) = record { refusal = k; value = v; hits = 0; fetched = 0 }
+-- also after 12: the number of all hits is then the value
+abbrev pub sweptOf : Verdict ℕ → ℕ → Swept
+sweptOf (accepted hits) fetched = record { refusal = 0; value = 0; hits = hits; fetched = fetched }
+sweptOf (refused k v) fetched = record { refusal = k; value = v; hits = 0; fetched = 0 }

@@ -98,7 +98,7 @@ pub extern "C" fn lonnatchi_sweep(
     ensures { λ r. let made = sweepImage (now (book .entry)) (now (image .entry))
         (tables (now (parent .entry)) (now (label .entry)) (now (token .entry)) (now (first .entry)) (now (next .entry)))
         (now (ends .entry)) (now (tokens .entry)) in
-        ⌜ (r ≡ sweptOf (made .answer))
+        ⌜ (r ≡ sweptOf (made .answer) (made .fetched))
         × (tables (now (parent .exit)) (now (label .exit)) (now (token .exit)) (now (first .exit)) (now (next .exit)) ≡ made .tables)
         × (now (ends .exit) ≡ made .ends) × (now (tokens .exit) ≡ made .tokens) ⌝ }
 {

@@ -1,7 +1,7 @@
 // What the sweep of a whole image answers, in numbers.
 ghost use mathlib.Core.Path.{_≡_};
 ghost use Rattle.book.specs.Book.{refused};
-ghost use Rattle.image.specs.Results.{sweptOf as verdictOf};
+ghost use Rattle.image.specs.Results.{sweptOf as verdictOf, fetchedOf};
 ghost use Rattle.gateway.specs.Numbers.{sweptOf};
 use crate::Swept;
 use crate::refusals::Refused;
@@ -9,7 +9,7 @@ use crate::refusals::number_of;
 
 // Nothing is swept, or there is no room for all hits.
 fn not_swept(why: Refused) -> Swept
-    ensures { λ r. ⌜ r ≡ sweptOf (refused (why .number) (why .value)) ⌝ }
+    ensures { λ r. ⌜ r ≡ sweptOf (refused (why .number) (why .value)) 0 ⌝ }
 {
     Swept {
         refusal: why.number,
@@ -21,7 +21,7 @@ fn not_swept(why: Refused) -> Swept
 
 // Refusal 7, 8 or 12 with its value.
 fn not_swept_by(number: u64, value: usize) -> Swept
-    ensures { λ r. ⌜ r ≡ sweptOf (refused number value) ⌝ }
+    ensures { λ r. ⌜ r ≡ sweptOf (refused number value) 0 ⌝ }
 {
     not_swept(Refused {
         number,
@@ -30,7 +30,7 @@ fn not_swept_by(number: u64, value: usize) -> Swept
 }
 
 pub fn numbers(answer: image::Swept) -> Swept
-    ensures { λ r. ⌜ r ≡ sweptOf (verdictOf answer) ⌝ }
+    ensures { λ r. ⌜ r ≡ sweptOf (verdictOf answer) (fetchedOf answer) ⌝ }
 {
     match answer {
         image::Swept::Whole(found) => Swept {
@@ -42,6 +42,6 @@ pub fn numbers(answer: image::Swept) -> Swept
         image::Swept::Unread(why) => not_swept(number_of(why)),
         image::Swept::TooShort(room) => not_swept_by(7, room),
         image::Swept::TooLong(most) => not_swept_by(8, most),
-        image::Swept::TooMany(all) => not_swept_by(12, all),
+        image::Swept::TooMany(found) => not_swept_by(12, found.hits),
     }
 }

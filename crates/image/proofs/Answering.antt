@@ -14,13 +14,13 @@ use Rattle.trie.specs.Tables.{Tables, nodes, built, Lent, written, tooShort, sh
 use Rattle.trie.specs.Laws.Building.{sizesOf, written-lent, answerTo}
 use Rattle.trie.specs.Laws.Answer.{Summed}
 use Rattle.trie.specs.Laws.Represents.{built-represents}
-use Rattle.image.specs.Image.{Found, Swept, tooLong, room, hitsOf, fetchesOf, counted, noted, sweepImage}
+use Rattle.image.specs.Image.{Swept, tooLong, room, hitsOf, fetchesOf, counted, noted, sweepImage}
 use Rattle.image.specs.Results.{refusalFor}
 use Rattle.image.specs.Rule5.{tokensIn, tokensOf}
 use Rattle.image.specs.Sweeping.{Given}
 
 -- The answers to a reading: where the image is over its limit, and in general.
-abbrev refusalTo : Tables → Reading → Verdict Found
+abbrev refusalTo : Tables → Reading → Verdict ℕ
 refusalTo t r = elim r [
   | refused k v ↦ refused k v
   | accepted tokens ↦ elim (tooShort t tokens) [ true ↦ refused 7 (1 + total tokens) | false ↦ refused 8 maxImage ]
@@ -28,14 +28,15 @@ refusalTo t r = elim r [
 
 module _ (image : List ℕ) (t : Tables) (ends numbers : List ℕ) where
   -- nothing is touched
-  abbrev untouched : Verdict Found → Swept
-  untouched v = record { answer = v; tables = t; ends = ends; tokens = numbers }
+  abbrev untouched : Verdict ℕ → Swept
+  untouched v = record { answer = v; fetched = 0; tables = t; ends = ends; tokens = numbers }
 
   abbrev whole : List (List ℕ) → Swept
   whole tokens = let found = hitsOf tokens image in
       let r = room ends numbers in
       record {
-        answer = counted r (length found) (fetchesOf tokens image);
+        answer = counted r (length found);
+        fetched = fetchesOf tokens image;
         tables = written (built tokens) t;
         ends = noted (λ h. h .0) r found ends;
         tokens = noted (λ h. h .1) r found numbers;
@@ -82,9 +83,9 @@ module _ (book : List ℕ) (t : Tables) where
 
 module _ (book image : List ℕ) (t : Tables) (ends numbers : List ℕ) where
   -- an image over its limit
-  pub answer-long : maxImage < length image → (v : Verdict Found) → v ≡ refusalFor book t
-      → untouched image t ends numbers v ≡ sweepImage book image t ends numbers
-  answer-long h v e = ap (untouched image t ends numbers) e ∙ go (readBook book)
+  pub answer-long : maxImage < length image → (v : Verdict ℕ) (f : ℕ) → v ≡ refusalFor book t → f ≡ 0
+      → record { answer = v; fetched = f; tables = t; ends = ends; tokens = numbers } ≡ sweepImage book image t ends numbers
+  answer-long h v f e z = rw z (ap (untouched image t ends numbers) e ∙ go (readBook book))
     where
       long : tooLong image ≡ true
       long = lt-ltb maxImage (length image) h
@@ -100,7 +101,7 @@ module _ (book image : List ℕ) (t : Tables) (ends numbers : List ℕ) where
     here = record { answer = refused k v; tables = u }
 
     abbrev there : Swept
-    there = record { answer = refused k v; tables = u; ends = ends; tokens = numbers }
+    there = record { answer = refused k v; fetched = 0; tables = u; ends = ends; tokens = numbers }
 
     same : (l w : ℕ) → here ≡ record { answer = refused l w; tables = t } → there ≡ untouched image t ends numbers (refused l w)
     same l w e =
@@ -206,20 +207,20 @@ module _ {book : List ℕ} (image : List ℕ) {t u : Tables} {sizes : Sizes} (b 
       room-same =
           omega (arith, e, ap length p, ap length q, noted-long (λ h. h .0) (room ends numbers) ends (omega arith), noted-long (λ h. h .1) (room ends numbers) numbers (omega arith))
 
-      answered : (v : Verdict Found) → v ≡ counted (room ends numbers) (length found) (fetchesOf ts image)
-          → record { answer = v; tables = u; ends = ends′; tokens = numbers′ } ≡ sweepImage book image t ends numbers
-      answered v z = rw (z, b .filled, p, q) (to-whole ∙ ap (sweptTo image t ends numbers) (sym (b .read)))
+      abbrev answer : Verdict ℕ → Swept
+      answer v = record { answer = v; fetched = fetched; tables = u; ends = ends′; tokens = numbers′ }
 
-      pub answer-many : r < hits → record { answer = refused 12 hits; tables = u; ends = ends′; tokens = numbers′ } ≡ sweepImage book image t ends numbers
+      answered : (v : Verdict ℕ) → v ≡ counted (room ends numbers) (length found) → answer v ≡ sweepImage book image t ends numbers
+      answered v z = rw (z, f, b .filled, p, q) (to-whole ∙ ap (sweptTo image t ends numbers) (sym (b .read)))
+
+      pub answer-many : r < hits → answer (refused 12 hits) ≡ sweepImage book image t ends numbers
       answer-many l = answered (refused 12 hits) (rw h (to-many (room ends numbers) (length found) (omega (arith, room-same))))
         where
-          to-many : (r all : ℕ) → r < all → refused 12 all ≡ counted r all (fetchesOf ts image)
+          to-many : (r all : ℕ) → r < all → refused 12 all ≡ counted r all
           to-many r all l = cc (lt-ltb r all l)
 
-      pub answer-whole : hits ≤ r
-          → record { answer = accepted (record { hits = hits; fetched = fetched }); tables = u; ends = ends′; tokens = numbers′ }
-          ≡ sweepImage book image t ends numbers
-      answer-whole l = answered (accepted (record { hits = hits; fetched = fetched })) (rw (h, f) (to-all (room ends numbers) (length found) (omega (arith, room-same))))
+      pub answer-whole : hits ≤ r → answer (accepted hits) ≡ sweepImage book image t ends numbers
+      answer-whole l = answered (accepted hits) (rw h (to-all (room ends numbers) (length found) (omega (arith, room-same))))
         where
-          to-all : (r all : ℕ) → all ≤ r → accepted (record { hits = all; fetched = fetchesOf ts image }) ≡ counted r all (fetchesOf ts image)
+          to-all : (r all : ℕ) → all ≤ r → accepted all ≡ counted r all
           to-all r all l = cc (le-ltb r all l)

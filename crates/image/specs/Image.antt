@@ -9,14 +9,11 @@ use Rattle.rules.specs.Sweep.{happens, bytesOf, places, hits}
 use Rattle.book.specs.Book.{Verdict, accepted, refused, readBook, maxImage}
 use Rattle.trie.specs.Tables.{Tables, built, over, written, tooShort}
 
--- The numbers of hits and of bytes fetched.
-pub record Found : Type 0 where
-  pub hits : ℕ
-  pub fetched : ℕ
-
--- What the sweep answers, and what the lent tables and hit buffers then hold.
+-- What the sweep answers, the number of hits or a refusal; how many bytes it fetched, none where nothing is swept; and what the lent
+-- tables and hit buffers then hold.
 pub record Swept : Type 0 where
-  pub answer : Verdict Found
+  pub answer : Verdict ℕ
+  pub fetched : ℕ
   pub tables : Tables
   pub ends : List ℕ
   pub tokens : List ℕ
@@ -37,9 +34,8 @@ abbrev pub fetchesOf : List (List ℕ) → List ℕ → ℕ
 fetchesOf tokens image = length (places (happens tokens (length image) (bytesOf image)))
 
 -- Refusal 12: there are more hits than the shorter buffer holds.
-abbrev pub counted : ℕ → ℕ → ℕ → Verdict Found
-counted room all fetched =
-    elim (ltb room all) [ true ↦ refused 12 all | false ↦ accepted (record { hits = all; fetched = fetched }) ]
+abbrev pub counted : ℕ → ℕ → Verdict ℕ
+counted room all = elim (ltb room all) [ true ↦ refused 12 all | false ↦ accepted all ]
 
 -- The hits' ends, or their token numbers, from a buffer's front on; what follows them stays.
 abbrev pub noted : (ℕ × ℕ → ℕ) → ℕ → List (ℕ × ℕ) → List ℕ → List ℕ
@@ -49,15 +45,16 @@ noted part room found buffer = over (map part (take room found)) buffer
 abbrev pub sweepImage : List ℕ → List ℕ → Tables → List ℕ → List ℕ → Swept
 sweepImage book image t ends numbers =
     elim (readBook book) [
-      | refused k v ↦ record { answer = refused k v; tables = t; ends = ends; tokens = numbers }
+      | refused k v ↦ record { answer = refused k v; fetched = 0; tables = t; ends = ends; tokens = numbers }
       | accepted tokens ↦ elim (tooShort t tokens) [
-        | true ↦ record { answer = refused 7 (1 + total tokens); tables = t; ends = ends; tokens = numbers }
+        | true ↦ record { answer = refused 7 (1 + total tokens); fetched = 0; tables = t; ends = ends; tokens = numbers }
         | false ↦ elim (tooLong image) [
-          | true ↦ record { answer = refused 8 maxImage; tables = t; ends = ends; tokens = numbers }
+          | true ↦ record { answer = refused 8 maxImage; fetched = 0; tables = t; ends = ends; tokens = numbers }
           | false ↦ (let found = hitsOf tokens image in
               let r = room ends numbers in
               record {
-                answer = counted r (length found) (fetchesOf tokens image);
+                answer = counted r (length found);
+                fetched = fetchesOf tokens image;
                 tables = written (built tokens) t;
                 ends = noted (λ h. h .0) r found ends;
                 tokens = noted (λ h. h .1) r found numbers;

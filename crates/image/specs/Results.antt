@@ -8,17 +8,25 @@ use Rattle.book.specs.Answers.{refusalOf}
 use Rattle.trie.specs.Tables.{Tables, tooShort}
 use Rattle.image.specs.declared.Swept.{Swept}
 use Rattle.image.specs.declared.Swept.the-variants.{Whole, Unread, TooShort, TooLong, TooMany}
-use Rattle.image.specs.Image.{Found}
 
-abbrev pub sweptOf : Swept → Verdict Found
-sweptOf (Whole f) = accepted (record { hits = f .hits; fetched = f .fetched })
+-- the number of hits, or the refusal
+abbrev pub sweptOf : Swept → Verdict ℕ
+sweptOf (Whole found) = accepted (found .hits)
 sweptOf (Unread why) = refused (refusalOf why .0) (refusalOf why .1)
 sweptOf (TooShort room) = refused 7 room
 sweptOf (TooLong most) = refused 8 most
-sweptOf (TooMany all) = refused 12 all
+sweptOf (TooMany found) = refused 12 (found .hits)
+
+-- the number of bytes fetched
+abbrev pub fetchedOf : Swept → ℕ
+fetchedOf (Whole found) = found .fetched
+fetchedOf (Unread why) = 0
+fetchedOf (TooShort room) = 0
+fetchedOf (TooLong most) = 0
+fetchedOf (TooMany found) = found .fetched
 
 -- What is refused when the image is over its limit: 1 to 6, 7, 8.
-abbrev pub refusalFor : List ℕ → Tables → Verdict Found
+abbrev pub refusalFor : List ℕ → Tables → Verdict ℕ
 refusalFor book t =
     elim (readBook book) [
       | refused k v ↦ refused k v

@@ -12,7 +12,7 @@ ghost use mathlib.Core.Path.{_≡_};
 ghost use Rattle.trie.specs.Tables.{Tables, shortestTable};
 ghost use Rattle.trie.specs.Answers.{tables};
 ghost use Rattle.image.specs.Image.{sweepImage};
-ghost use Rattle.image.specs.Results.{sweptOf, refusalFor};
+ghost use Rattle.image.specs.Results.{sweptOf, fetchedOf, refusalFor};
 use book::Book;
 use book::Reading;
 use book::Refusal;
@@ -24,13 +24,13 @@ pub struct Found {
     pub fetched: usize,
 }
 
-// What the sweep answers: all it found; the book's refusal; 7 with the length wanted; 8 with the limit; 12 with the number of all hits.
+// What the sweep answers: all it found; the book's refusal; 7 with the length wanted; 8 with the limit; 12 with all it found.
 pub enum Swept {
     Whole(Found),
     Unread(Refusal),
     TooShort(usize),
     TooLong(usize),
-    TooMany(usize),
+    TooMany(Found),
 }
 
 fn least(a: usize, b: usize) -> usize
@@ -41,7 +41,7 @@ fn least(a: usize, b: usize) -> usize
 
 // Refusals 1 to 8 where the image is over its limit: nothing is built. `entries` is the shortest table's length.
 fn refuse(book: &[u8], entries: usize) -> Swept
-    ensures { λ r. ⌜ ((t : Tables) → entries ≡ shortestTable t → sweptOf r ≡ refusalFor (now (book .entry)) t) ⌝ }
+    ensures { λ r. ⌜ (fetchedOf r ≡ 0) × ((t : Tables) → entries ≡ shortestTable t → sweptOf r ≡ refusalFor (now (book .entry)) t) ⌝ }
 {
     match book::read(book) {
         Reading::Refused(why) => Swept::Unread(why),
@@ -71,6 +71,7 @@ pub fn sweep_image(
     ensures { λ r. ⌜
         record {
           answer = sweptOf r;
+          fetched = fetchedOf r;
           tables = tables (now (parent .exit)) (now (label .exit)) (now (token .exit)) (now (first .exit)) (now (next .exit));
           ends = now (ends .exit);
           tokens = now (tokens .exit);
@@ -108,7 +109,7 @@ pub fn sweep_image(
             );
             let room = least(ends.len(), tokens.len());
             if room < found.hits {
-                return Swept::TooMany(found.hits);
+                return Swept::TooMany(found);
             }
             Swept::Whole(found)
         }

@@ -54,8 +54,18 @@ fn list(
 ) {
     match answer {
         Swept::Whole(found) => lines::whole(image.len(), known, found, ends, tokens),
-        Swept::TooMany(hits) => {
-            bytewise::sweep(book, image, known, hits, parent, label, token, first, next)
+        Swept::TooMany(found) => {
+            bytewise::sweep(
+                book,
+                image,
+                known,
+                found.hits,
+                parent,
+                label,
+                token,
+                first,
+                next,
+            )
         }
         Swept::Unread(why) => lines::refusal(why),
         Swept::TooShort(room) => lines::refused(7, room),

@@ -47,7 +47,8 @@ module _ (book : List ℕ) (tokens : List (List ℕ)) (read : readBook book ≡ 
     whole-image : sweepImage book image tables ends numbers ≡ (let es = happens tokens (length image) (bytesOf image) in
         let r = room ends numbers in
         record {
-          answer = counted r (length (hits es)) (length (places es));
+          answer = counted r (length (hits es));
+          fetched = length (places es);
           tables = written (built tokens) tables;
           ends = noted (λ h. h .0) r (hits es) ends;
           tokens = noted (λ h. h .1) r (hits es) numbers;
@@ -74,8 +75,8 @@ module _ (book : List ℕ) (tokens : List (List ℕ)) (read : readBook book ≡ 
         finds = found;
         occurrences = subst (Occurrences tokens image) (sym found) (x .occurrences);
         counts = λ ends numbers. ap (λ r. r .answer) (call ends numbers)
-            ∙ ap (λ l. counted (room ends numbers) (length l) (length (places es))) (sym found)
-            ∙ ap (λ l. counted (room ends numbers) (length (hitsIn (answers es))) (length l)) (sym (answers-places es (x .whole)));
+            ∙ ap (λ l. counted (room ends numbers) (length l)) (sym found);
+        counts-fetches = λ ends numbers. ap (λ r. r .fetched) (call ends numbers) ∙ ap length (sym (answers-places es (x .whole)));
         builds = λ ends numbers. ap (λ r. r .tables) (call ends numbers);
         notes-ends = λ ends numbers. ap (λ r. r .ends) (call ends numbers) ∙ ap (λ l. noted (λ h. h .0) (room ends numbers) l ends) (sym found);
         notes-tokens = λ ends numbers. ap (λ r. r .tokens) (call ends numbers) ∙ ap (λ l. noted (λ h. h .1) (room ends numbers) l numbers) (sym found);

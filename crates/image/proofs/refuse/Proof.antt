@@ -1,6 +1,6 @@
 -- `refuse` meets its contract, refusal by refusal.
 use native.Mathlib.Omega.{arith}
-use mathlib.Core.Path.{ap, sym, _∙_}
+use mathlib.Core.Path.{refl, ap, sym, _∙_}
 use borrow.Author.Needs.{needs}
 use Rattle.book.specs.Book as book
 use Rattle.book.specs.Answers.{refusalOf, totalled, verdictOf}
@@ -25,19 +25,19 @@ add-room : tie.Need-add-room
 add-room c = omega (arith, summed-small (start c .args .book .now) (totals c) (sums c))
 
 returns : tie.Need-returns
-returns c t e = let d = c .before in
+returns c = let d = c .before in
     let a = start d .args in
-    refusal-short (a .book .now) t (totals d) (sums d) (a .entries) e (c .if1 .taken)
+    (refl, λ t e. refusal-short (a .book .now) t (totals d) (sums d) (a .entries) e (c .if1 .taken))
 
 returns-2 : tie.Need-returns-2
-returns-2 c t e = let why = c .before .why .given .0 .0 in
+returns-2 c = let why = c .before .why .given .0 .0 in
     let d = c .before .before .before in
-    refusal-unread (d .before .before .args .book .now) t (refusalOf why .0) (refusalOf why .1) (ap verdictOf (sym (c .before .why .given .1)) ∙ d .read .ensures)
+    (refl, λ t e. refusal-unread (d .before .before .args .book .now) t (refusalOf why .0) (refusalOf why .1) (ap verdictOf (sym (c .before .why .given .1)) ∙ d .read .ensures))
 
 returns-3 : tie.Need-returns-3
-returns-3 c t e = let d = c .before in
+returns-3 c = let d = c .before in
     let a = start d .args in
-    refusal-long (a .book .now) t (totals d) (sums d) (a .entries) e (c .if1 .left)
+    (refl, λ t e. refusal-long (a .book .now) t (totals d) (sums d) (a .entries) e (c .if1 .left))
 
 pub refuse-spec : {M : Type 1} → statement M
 refuse-spec =

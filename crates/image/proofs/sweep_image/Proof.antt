@@ -7,7 +7,7 @@ use Rattle.book.specs.Book.{maxImage}
 use Rattle.book.specs.Answers.{refusalOf}
 use Rattle.trie.specs.Tables.{Tables, Sizes}
 use Rattle.trie.specs.Answers.{tables, answerOf}
-use Rattle.image.specs.Results.{sweptOf}
+use Rattle.image.specs.Results.{sweptOf, fetchedOf}
 use Rattle.image.proofs.Answering.{Built, answer-long, answer-refused, is-built, built-given, answer-many, answer-whole}
 use Rattle.image.proofs.sweep_image.Statement.{statement}
 use Rattle.image.proofs.sweep_image.Tie as tie
@@ -41,12 +41,14 @@ stand c = let d = make c in
 returns : tie.Need-returns
 returns c = let s = c .before .before .before .before .before .before .before .before .before .before .before .before .before .before .before in
     let a = s .args in
-    answer-long (a .book .now) (a .image .now) (lent s) (a .ends .now) (a .tokens .now) (c .before .before .before .before .before .if1 .taken) (sweptOf (c .refuse .result))
-    (c .refuse .ensures (lent s)
+    answer-long (a .book .now) (a .image .now) (lent s) (a .ends .now) (a .tokens .now) (c .before .before .before .before .before .if1 .taken)
+    (sweptOf (c .refuse .result)) (fetchedOf (c .refuse .result))
+    (c .refuse .ensures .1 (lent s)
     (c .before .least4 .ensures
     ∙ ap (min (length (a .parent .now))) (c .before .before .least3 .ensures
     ∙ ap (min (length (a .label .now))) (c .before .before .before .least2 .ensures
     ∙ ap (min (length (a .token .now))) (c .before .before .before .before .least .ensures)))))
+    (c .refuse .ensures .0)
 
 sweep-requires : tie.Need-sweep-requires
 sweep-requires c κs = let z = c .before .before .before .before .before .before .before in
