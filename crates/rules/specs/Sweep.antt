@@ -51,6 +51,10 @@ abbrev pub Ordered : List (ℕ × ℕ) → Type 0
 Ordered [] = Unit {0}
 Ordered (h ∷ hs) = ((e i : ℕ) → List·Memᴰ (e, i) hs → h .0 ≤ e) × Ordered hs
 
+-- a hit, n places further right
+abbrev pub moved : ℕ → ℕ × ℕ → ℕ × ℕ
+moved n h = (n + h .0, h .1)
+
 -- The hits are exactly the occurrences, each one time, from left to right.
 pub record Occurrences (tokens : List (List ℕ)) (image : List ℕ) (found : List (ℕ × ℕ)) : Type 0 where
   pub sound : (e i : ℕ) → List·Memᴰ (e, i) found → Stands tokens image e (i - 1) × (1 ≤ i)

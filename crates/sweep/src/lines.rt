@@ -1,4 +1,6 @@
 // The lines that are printed, gathered in a buffer so that few writes are made.
+ghost use Prim.Native.Nat.{_≤_, _<_};
+ghost use mathlib.Core.Path.{_≡_};
 use book::Refusal;
 use image::Found;
 
@@ -86,8 +88,26 @@ impl Pen {
             .text(out, b"\n")
     }
 
-    pub fn hit(self, out: &mut [u8], end: usize, token: usize) -> Pen {
-        self.line(out, b"hit ", end, token)
+    // A line for each hit that the buffers hold from entry `first` up to `last`, its end moved by `from`.
+    pub fn hits(
+        self,
+        out: &mut [u8],
+        from: usize,
+        first: usize,
+        last: usize,
+        ends: &[u32],
+        tokens: &[u32],
+    ) -> Pen
+        requires { ⌜ from ≤ 65536 ⌝ }
+    {
+        let mut pen = self;
+        let mut i = first;
+        while i < last {
+            let end = from + entry(ends, i);
+            pen = pen.line(out, b"hit ", end, entry(tokens, i));
+            i += 1;
+        }
+        pen
     }
 
     // The last line: how many hits there were and how many bytes were fetched.
@@ -124,12 +144,16 @@ pub fn refusal(why: Refusal) {
     }
 }
 
-fn wide(x: u32) -> usize {
+pub fn wide(x: u32) -> usize
+    ensures { λ r. ⌜ (r ≡ x) × (r < 4294967296) ⌝ }
+{
     x as usize
 }
 
 // An entry of a hit buffer; all hits that are listed have one.
-fn entry(buffer: &[u32], at: usize) -> usize {
+fn entry(buffer: &[u32], at: usize) -> usize
+    ensures { λ r. ⌜ r < 4294967296 ⌝ }
+{
     if at < buffer.len() {
         wide(buffer[at])
     } else {
@@ -140,12 +164,7 @@ fn entry(buffer: &[u32], at: usize) -> usize {
 // The lines of a sweep whose hits are all in the buffers.
 pub fn whole(image: usize, known: usize, found: Found, ends: &[u32], tokens: &[u32]) {
     let mut out = [0u8; ROOM];
-    let hits = found.hits;
-    let mut pen = Pen::new().head(&mut out, image, known);
-    let mut i = 0;
-    while i < hits {
-        pen = pen.hit(&mut out, entry(ends, i), entry(tokens, i));
-        i += 1;
-    }
-    pen.end(&mut out, hits, found.fetched)
+    let pen = Pen::new().head(&mut out, image, known);
+    let last = pen.hits(&mut out, 0, 0, found.hits, ends, tokens);
+    last.end(&mut out, found.hits, found.fetched)
 }

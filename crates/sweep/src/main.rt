@@ -1,15 +1,17 @@
 // Sweeps image.bin for the tokens of book.bin, both in the folder it is run in, and lists all hits; or prints why it cannot.
-ghost use Prim.Native.Nat.{ℕ};
+ghost use Prim.Native.Nat.{ℕ, _≤_};
 ghost use mathlib.Core.Path.{_≡_};
 ghost use mathlib.Core.List.{List};
-ghost use lib.ListN.{take};
+ghost use lib.ListN.{length, take};
 ghost use Rattle.io.specs.Counts.{Counts};
 ghost use Rattle.book.specs.Book.{readBook, summary};
 ghost use Rattle.book.specs.Answers.{verdictOf};
 ghost use Rattle.sweep.specs.Prefix.{needed};
+ghost use Rattle.sweep.specs.Program.{Known};
 
-mod bytewise;
 mod lines;
+mod parts;
+mod tables;
 
 use book::Book;
 use book::Reading;
@@ -22,7 +24,7 @@ const BOOK: usize = Book::TOKENS + Book::BODIES + 1 + Book::BODY;
 // One byte more than an image may have.
 const IMAGE: usize = 65537;
 
-// How many hits are listed from the sweep of the whole image.
+// How many hits the buffers hold.
 const HITS: usize = 262144;
 
 // The first bytes of a file, as many as there is room for; none where it can't be read.
@@ -38,34 +40,17 @@ fn read_file(name: &[u8], bytes: &mut [u8]) -> usize
     n
 }
 
-// Lists what the sweep of the whole image found; if that is more than the buffers hold, sweeps again by single bytes.
-fn list(
-    answer: Swept,
-    book: &[u8],
-    image: &[u8],
-    known: usize,
-    parent: &mut [u16],
-    label: &mut [u8],
-    token: &mut [u16],
-    first: &mut [u16],
-    next: &mut [u16],
-    ends: &[u32],
-    tokens: &[u32],
-) {
+// Sweeps the whole image and lists the hits; where there are more than the buffers hold, by parts. `known` is the number of tokens.
+fn sweep(book: &[u8], image: &[u8], known: usize, longest: usize)
+    requires { ⌜ Known (now book) longest × (length (now image) ≤ 65536) ⌝ }
+{
+    let mut ends = [0u32; HITS];
+    let mut tokens = [0u32; HITS];
+    let answer = tables::sweep(book, image, &mut ends, &mut tokens);
     match answer {
-        Swept::Whole(found) => lines::whole(image.len(), known, found, ends, tokens),
+        Swept::Whole(found) => lines::whole(image.len(), known, found, &ends, &tokens),
         Swept::TooMany(found) => {
-            bytewise::sweep(
-                book,
-                image,
-                known,
-                found.hits,
-                parent,
-                label,
-                token,
-                first,
-                next,
-            )
+            parts::list(book, image, known, longest, found, &mut ends, &mut tokens)
         }
         Swept::Unread(why) => lines::refusal(why),
         Swept::TooShort(room) => lines::refused(7, room),
@@ -73,44 +58,10 @@ fn list(
     }
 }
 
-// Sweeps with tables and hit buffers of its own. `known` is the number of tokens.
-fn sweep(book: &[u8], image: &[u8], known: usize) {
-    let mut parent = [0u16; 16385];
-    let mut label = [0u8; 16385];
-    let mut token = [0u16; 16385];
-    let mut first = [0u16; 16385];
-    let mut next = [0u16; 16385];
-    let mut ends = [0u32; HITS];
-    let mut tokens = [0u32; HITS];
-    let answer = image::sweep_image(
-        book,
-        image,
-        &mut parent,
-        &mut label,
-        &mut token,
-        &mut first,
-        &mut next,
-        &mut ends,
-        &mut tokens,
-    );
-    list(
-        answer,
-        book,
-        image,
-        known,
-        &mut parent,
-        &mut label,
-        &mut token,
-        &mut first,
-        &mut next,
-        &ends,
-        &tokens,
-    );
-}
-
 // Reads a book of which this is the start, or the whole where it is shorter: the answer is the whole book's.
 fn read(start: &[u8]) -> Reading
-    ensures { λ r. ⌜ ((book : List ℕ) → now (start .entry) ≡ take needed book → verdictOf r ≡ summary (readBook book)) ⌝ }
+    ensures { λ r. ⌜ (verdictOf r ≡ summary (readBook (now (start .entry))))
+        × ((book : List ℕ) → now (start .entry) ≡ take needed book → verdictOf r ≡ summary (readBook book)) ⌝ }
 {
     book::read(start)
 }
@@ -124,7 +75,7 @@ fn run(book: &[u8], image: &[u8]) {
                 lines::refused(8, IMAGE - 1);
                 return;
             }
-            sweep(book, image, totals.tokens)
+            sweep(book, image, totals.tokens, totals.longest)
         }
     }
 }

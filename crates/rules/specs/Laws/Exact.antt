@@ -41,10 +41,11 @@ tokens-finite tokens S D setting = record {
   moves = shift-ge tokens S;
 }
 
--- The events are those of a whole sweep whose hits are the occurrences.
+-- The events are those of a whole sweep whose hits are the occurrences, in the order of `Rising`.
 pub record Exact (tokens : List (List ℕ)) (image : List ℕ) (es : List (Event (List ℕ))) : Type 0 where
   pub whole : Whole es
   pub occurrences : Occurrences tokens image (hits es)
+  pub rising : Rising tokens (hits es)
 
 module _ (tokens : List (List ℕ)) (S D : ℕ) (setting : Setting tokens S D) (image : List ℕ) where
   -- what happens from a configuration on, after k fetches
@@ -70,7 +71,7 @@ module _ (tokens : List (List ℕ)) (S D : ℕ) (setting : Setting tokens S D) (
   trace-good (suc fuel) k c v h =
       follow-good fuel _ (trace-good fuel) k c (next (ofTokens tokens S) (length image) c) (next-good tokens S D setting image c v) h
 
-all-mem : (P : ℕ × ℕ → Type 0) (a : ℕ × ℕ) (l : List (ℕ × ℕ)) → All P l → List·Memᴰ a l → P a
+pub all-mem : (P : ℕ × ℕ → Type 0) (a : ℕ × ℕ) (l : List (ℕ × ℕ)) → All P l → List·Memᴰ a l → P a
 all-mem P a (x ∷ l) h (List·Memᴰ·head e) = subst P (sym e) (h .0)
 all-mem P a (x ∷ l) h (List·Memᴰ·tail m) = all-mem P a l (h .1) m
 
@@ -98,6 +99,7 @@ module _ (tokens : List (List ℕ)) (S D : ℕ) (setting : Setting tokens S D) (
       once = rising-once tokens (hits es) (g .rising);
       ordered = rising-ordered tokens (hits es) (g .rising);
     };
+    rising = g .rising;
   }
 
   pub exact : (fuel : ℕ) → length image * (D + 1) < fuel

@@ -11,7 +11,7 @@ read-requires : tie.Need-read-requires
 read-requires c κs = search needs
 
 returns : tie.Need-returns
-returns c book start = c .read .ensures ∙ ap (λ s. summary (readBook s)) start ∙ ap summary (enough needed (omega arith) book)
+returns c = (c .read .ensures, λ book start. c .read .ensures ∙ ap (λ s. summary (readBook s)) start ∙ ap summary (enough needed (omega arith) book))
 
 pub read-spec : {M : Type 1} → statement M
 read-spec = tie.close (tie.spec read-requires returns)

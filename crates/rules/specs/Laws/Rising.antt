@@ -1,0 +1,80 @@
+-- Hits in their order: two lists in it that have the same members are equal. Of the order only this is used: of two hits not each comes
+-- before the other, and moving both by as much changes nothing.
+use Prim.Native.Nat.{ℕ}
+use native.Mathlib.Omega.{arith}
+use mathlib.Core.Path.{_≡_, refl, ap, sym, subst, _∙_}
+use mathlib.Core.Bool.{Bool, true, false}
+use mathlib.Core.Logic.{_⊎_, inl, inr}
+use mathlib.Core.List.{List, [], _∷_, map, List·Memᴰ, List·Memᴰ·head, List·Memᴰ·tail, List·Memᴰ·not-nil, List·Memᴰ·cases-cons}
+use Rattle.rules.specs.Lists.{filter}
+use Rattle.rules.specs.Sweep.{moved}
+use Rattle.rules.specs.Laws.Tests.{decide}
+use Rattle.rules.specs.Laws.All.{All, all-filter}
+use Rattle.rules.specs.Laws.Exact.{all-mem}
+use Rattle.rules.specs.Laws.Exact.Events.{lengthOf, Later, Rising}
+
+-- The members of a filtered list are those that pass.
+module _ {A : Type 0} (p : A → Bool) where
+  pub filter-in : (a : A) (l : List A) → List·Memᴰ a l → p a ≡ true → List·Memᴰ a (filter p l)
+  filter-in a (x ∷ l) (List·Memᴰ·head e) t =
+      decide (List·Memᴰ a) (p x) _ _ (λ _. List·Memᴰ·head e) (λ f. absurd (let z : _≡_ {A = ℕ} 0 1 = cc in omega arith))
+  filter-in a (x ∷ l) (List·Memᴰ·tail m) t =
+      decide (List·Memᴰ a) (p x) _ _ (λ _. List·Memᴰ·tail (filter-in a l m t)) (λ _. filter-in a l m t)
+
+  pub filter-out : (a : A) (l : List A) → List·Memᴰ a (filter p l) → List·Memᴰ a l × (p a ≡ true)
+  filter-out a [] m = absurd (List·Memᴰ·not-nil m)
+  filter-out a (x ∷ l) m = go (p x) refl (filter-out a l) m
+    where
+      go : (b : Bool) → p x ≡ b → (List·Memᴰ a (filter p l) → List·Memᴰ a l × (p a ≡ true))
+          → List·Memᴰ a (elim b [ true ↦ x ∷ filter p l | false ↦ filter p l ]) → List·Memᴰ a (x ∷ l) × (p a ≡ true)
+      go true e f m = elim (List·Memᴰ·cases-cons m) [ inl q ↦ (List·Memᴰ·head q, ap p q ∙ e) | inr k ↦ (List·Memᴰ·tail (f k .0), f k .1) ]
+      go false e f m = (List·Memᴰ·tail (f m .0), f m .1)
+
+module _ (tokens : List (List ℕ)) where
+  -- hit g comes before hit h
+  abbrev pub Before : ℕ × ℕ → ℕ × ℕ → Type 0
+  Before g h = Later tokens (g .0) (lengthOf tokens (g .1)) h
+
+  not-both : (g h : ℕ × ℕ) → Before g h → Before h g → ⊥
+  not-both g h a b = omega (arith, a .0, b .0, a .1 (b .0), b .1 (a .0))
+
+  before-moved : (n : ℕ) (g h : ℕ × ℕ) → Before g h → Before (moved n g) (moved n h)
+  before-moved n g h b = (omega (arith, b .0), λ k. b .1 (omega arith))
+
+  pub rising-moved : (n : ℕ) (l : List (ℕ × ℕ)) → Rising tokens l → Rising tokens (map (moved n) l)
+  rising-moved n [] r = tt
+  rising-moved n (h ∷ l) r = (all l (r .0), rising-moved n l (r .1))
+    where
+      all : (l : List (ℕ × ℕ)) → All (Before h) l → All (Before (moved n h)) (map (moved n) l)
+      all [] a = tt
+      all (g ∷ l) a = (before-moved n h g (a .0), all l (a .1))
+
+  pub rising-filter : (p : ℕ × ℕ → Bool) (l : List (ℕ × ℕ)) → Rising tokens l → Rising tokens (filter p l)
+  rising-filter p [] r = tt
+  rising-filter p (h ∷ l) r =
+      decide (Rising tokens) (p h) _ _ (λ _. (all-filter (Before h) p l (r .0), rising-filter p l (r .1))) (λ _. rising-filter p l (r .1))
+
+  abbrev Within : List (ℕ × ℕ) → List (ℕ × ℕ) → Type 0
+  Within l m = (h : ℕ × ℕ) → List·Memᴰ h l → List·Memᴰ h m
+
+  -- what stands behind the head is not the head
+  behind : (a b : ℕ × ℕ) (l m : List (ℕ × ℕ)) → a ≡ b → All (Before a) l → Within (a ∷ l) (b ∷ m) → Within l m
+  behind a b l m e r f h k = go (List·Memᴰ·cases-cons (f h (List·Memᴰ·tail k)))
+    where
+      go : (h ≡ b) ⊎ List·Memᴰ h m → List·Memᴰ h m
+      go (inl q) = let x = subst (Before a) (q ∙ sym e) (all-mem (Before a) h l r k) in absurd (not-both a a x x)
+      go (inr k) = k
+
+  pub same-members : (l m : List (ℕ × ℕ)) → Rising tokens l → Rising tokens m → Within l m → Within m l → l ≡ m
+  same-members [] [] r s f g = refl
+  same-members [] (b ∷ m) r s f g = absurd (List·Memᴰ·not-nil (g b (List·Memᴰ·head refl)))
+  same-members (a ∷ l) [] r s f g = absurd (List·Memᴰ·not-nil (f a (List·Memᴰ·head refl)))
+  same-members (a ∷ l) (b ∷ m) r s f g =
+      let e = heads (List·Memᴰ·cases-cons (f a (List·Memᴰ·head refl))) (List·Memᴰ·cases-cons (g b (List·Memᴰ·head refl))) in
+      let t = same-members l m (r .1) (s .1) (behind a b l m e (r .0) f) (behind b a m l (sym e) (s .0) g) in
+      cc
+    where
+      heads : (a ≡ b) ⊎ List·Memᴰ a m → (b ≡ a) ⊎ List·Memᴰ b l → a ≡ b
+      heads (inl e) k = e
+      heads (inr j) (inl e) = sym e
+      heads (inr j) (inr k) = absurd (not-both a b (all-mem (Before a) b l (r .0) k) (all-mem (Before b) a m (s .0) j))

@@ -1,0 +1,44 @@
+-- What the program's functions promise: the sweep with tables of its own, and a part as the buffers have it.
+use Prim.Native.Nat.{ℕ}
+use mathlib.Core.Path.{_≡_}
+use mathlib.Core.List.{List, [], _∷_, map}
+use lib.ListN.{length, take, drop}
+use Rattle.rules.specs.Tokens.{longestOf}
+use Rattle.rules.specs.Sweep.{moved}
+use Rattle.book.specs.Book.{readBook, accepted}
+use Rattle.image.specs.declared.Swept.{Swept}
+use Rattle.image.specs.Image.{room, hitsOf, fetchesOf, counted, noted}
+use Rattle.image.specs.Results.{sweptOf, fetchedOf}
+use Rattle.image.specs.Rule5.{tokensOf}
+use Rattle.sweep.specs.declared.parts.Part.{Part}
+use Rattle.sweep.specs.Parts.{fromAt, toAt, listedAt}
+
+-- The book is accepted; and its longest token is so long.
+abbrev pub Accepted : List ℕ → Type 0
+Accepted book = readBook book ≡ accepted (tokensOf book)
+
+pub record Known (book : List ℕ) (longest : ℕ) : Type 0 where
+  pub read : Accepted book
+  pub long : longest ≡ longestOf (tokensOf book)
+
+-- The answer is that of the sweep of the image, and the buffers, as lent and as left, have its hits.
+pub record Found (book image : List ℕ) (r : Swept) (ends numbers ends′ numbers′ : List ℕ) : Type 0 where
+  pub answer : sweptOf r ≡ counted (room ends numbers) (length (hitsOf (tokensOf book) image))
+  pub fetched : fetchedOf r ≡ fetchesOf (tokensOf book) image
+  pub in-ends : ends′ ≡ noted (λ h. h .0) (room ends numbers) (hitsOf (tokensOf book) image) ends
+  pub in-tokens : numbers′ ≡ noted (λ h. h .1) (room ends numbers) (hitsOf (tokensOf book) image) numbers
+
+-- The hits that the buffers' first n entries are.
+abbrev pub pairs : List ℕ → List ℕ → List (ℕ × ℕ)
+pairs [] l = []
+pairs (e ∷ es) [] = []
+pairs (e ∷ es) (i ∷ is) = (e, i) ∷ pairs es is
+
+abbrev pub held : ℕ → List ℕ → List ℕ → List (ℕ × ℕ)
+held n ends numbers = pairs (take n ends) (take n numbers)
+
+-- The part goes on from `at`, and what is listed of it are the hits that the buffers hold, but for the first `before`, moved by `from`.
+pub record Listing (tokens : List (List ℕ)) (image : List ℕ) (at : ℕ) (p : Part) (ends numbers : List ℕ) : Type 0 where
+  pub begins : p .from ≡ fromAt tokens image at
+  pub ends-at : p .to ≡ toAt tokens image at
+  pub lists : listedAt tokens image at ≡ map (moved (p .from)) (drop (p .before) (held (p .hits) ends numbers))
