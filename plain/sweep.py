@@ -1,6 +1,7 @@
 #!/usr/bin/env python3
 """Runs the program `sweep` in folders of its own and compares what it prints with a plain search, the bytes fetched with the reading
-rules of steps.py, and refusals with tables.py. Fails at the first difference. Wants target/bin/sweep (`rt check sweep`)."""
+rules, round by round, which are compared with those of steps.py on small images, and refusals with tables.py. Fails at the first
+difference. Wants target/bin/sweep (`rt check sweep`)."""
 import os
 import pathlib
 import random
@@ -15,7 +16,10 @@ import tables
 
 PROGRAM = pathlib.Path(__file__).resolve().parent.parent / "target" / "bin" / "sweep"
 IMAGE = 65536
-HITS = 262144  # the program sweeps by single bytes when there are more
+HITS = 262144  # the program lists the hits by parts of the image when there are more
+PART = 3855  # the most bytes that a part has
+SMALL = 400  # an image that is read step by step too
+LENGTHS = [*range(1, 65), 128, 256, 512, 1024]
 FOLDER, LOCKED = object(), object()  # in a file's place: a folder, and a file that may not be read; None: no file
 NOBODY = 65534  # root may read all files
 BOOK = books.book_of([b"axbbx"])
@@ -23,17 +27,57 @@ BOOK = books.book_of([b"axbbx"])
 
 def search(bodies, image):
     """All hits (end, token), by rising end and, at one end, by rising length."""
-    hits = []
-    for number, body in enumerate(bodies, 1):
-        at = image.find(body)
+    at_end = {}
+    for length, number in sorted((len(body), number) for number, body in enumerate(bodies, 1)):
+        at = image.find(bodies[number - 1])
         while at >= 0:
-            hits.append((at + len(body), len(body), number))
-            at = image.find(body, at + 1)
-    return [(end, number) for end, _, number in sorted(hits)]
+            at_end.setdefault(at + length, []).append(number)
+            at = image.find(bodies[number - 1], at + 1)
+    return [(end, number) for end in sorted(at_end) for number in at_end[end]]
+
+
+def shift(bodies, shortest, matched, closing):
+    """Rule 5."""
+    d = len(matched)
+
+    def least(agrees):
+        return next((s for s in range(1, shortest) if any(agrees(t, s) for t in bodies)), shortest)
+
+    def over(t, s):
+        n = min(d, len(t) - s)
+        return t[len(t) - s - n : len(t) - s] == matched[d - n :]
+
+    node = least(over)
+    byte = 1 if closing is None else least(lambda t, s: len(t) <= d + s or t[len(t) - 1 - d - s] == closing)
+    return max(node, byte)
 
 
 def fetches(bodies, image):
-    """How many bytes the reading rules fetch."""
+    """How many bytes the reading rules fetch, round by round."""
+    endings = {body[k:] for body in bodies for k in range(len(body) + 1)}
+    inner = {ending[1:] for ending in endings if ending}
+    shortest, longest = min(map(len, bodies)), max(map(len, bodies))
+    b, stretches, fetched, shifts = shortest, [], 0, {}
+    while b <= len(image):
+        d, most = 0, min(longest, b)
+        while d < most:  # an ending of an ending is one too
+            k = (d + most + 1) // 2
+            d, most = (k, most) if image[b - k : b] in endings else (d, k - 1)
+        matched = image[b - d : b]
+        closing = image[b - 1 - d] if d < b and matched in inner else None
+        looked = b - d if closing is None else b - 1 - d
+        fetched += b - looked - sum(max(0, right - max(left, looked)) for left, right in stretches)
+        left_over = [s for s in stretches if s[0] < b - d]
+        new = (max([b - d] + [right for _, right in left_over]), b)
+        if (matched, closing) not in shifts:
+            shifts[matched, closing] = shift(bodies, shortest, matched, closing)
+        b += shifts[matched, closing]
+        stretches = [(left, right) for left, right in [*left_over, new] if 4 * (b - right) <= right - left]
+    return fetched
+
+
+def stepped(bodies, image):
+    """The same by the steps of steps.py."""
     lists, shortest, count = steps.built(bodies)
     state, fetched = steps.State(len(image), shortest, count), 0
     said = steps.settle(lists, state)
@@ -52,9 +96,11 @@ def expected(book, image):
         return "refused {} {}\n".format(*reading[1:])
     if len(image) > IMAGE:
         return f"refused 8 {IMAGE}\n"
-    hits = search(reading[1], image)
+    hits, fetched = search(reading[1], image), fetches(reading[1], image)
+    if len(image) <= SMALL and fetched != stepped(reading[1], image):
+        fail("the plain readings", book, image, "fetch", fetched, "and", stepped(reading[1], image))
     lines = [f"image {len(image)} tokens {len(reading[1])}", *(f"hit {end} {number}" for end, number in hits)]
-    return "\n".join(lines + [f"end {len(hits)} {fetches(reading[1], image)}"]) + "\n"
+    return "\n".join(lines + [f"end {len(hits)} {fetched}"]) + "\n"
 
 
 def place(path, content):
@@ -87,6 +133,8 @@ def compare(name, book, image):
     wanted = expected(*(x if isinstance(x, bytes) else b"" for x in (book, image)))
     if done.returncode or done.stderr:
         fail(name, "it ended with", done.returncode, done.stderr)
+    if done.stdout == wanted.encode():
+        return
     told, wanted = done.stdout.decode("latin-1").split("\n"), wanted.split("\n")
     for i in range(max(len(told), len(wanted))):
         a, b = (lines[i] if i < len(lines) else "nothing" for lines in (told, wanted))
@@ -138,6 +186,29 @@ def many_hits():
     for more in (exact, exact + 1, IMAGE - fill):
         yield f"{5 * fill - 10 + more} hits", books.book_of(bodies), b"b" * more + b"a" * fill
     yield "all a", books.book_of(bodies), b"a" * IMAGE
+    yield "all a, every length", books.book_of([b"a" * k for k in LENGTHS]), b"a" * IMAGE
+    yield "tokens of one byte", books.book_of([bytes([k]) for k in range(256)]), bytes(range(256)) * (IMAGE // 256)
+
+
+def edge(longest, k):
+    """Where the k-th part ends, if the image goes on."""
+    return PART + (k - 1) * (PART - (longest - 1))
+
+
+def at_edges():
+    """Images that end at the end of a part, a byte before and a byte behind it; tokens that lie across the parts' ends."""
+    for lengths, k in ((range(1, 6), 14), (LENGTHS, 2), (LENGTHS, 3)):
+        for n in (-1, 0, 1):
+            yield f"image of {k} parts and {n} bytes", books.book_of([b"a" * m for m in lengths]), b"a" * (edge(max(lengths), k) + n)
+    long = books.numbered(1, 1024)
+    bodies = [b"a" * m for m in range(1, 9)] + [long, long[-512:], long[-1:], long[:1], long[:64]]
+    for off in (-1, 0, 1, 2, 511, 1022, 1023, 1024, 1025):
+        image = bytearray(b"a" * IMAGE)
+        for k in range(1, 100):
+            end = edge(1024, k) + off
+            if end <= IMAGE:
+                image[end - 1024 : end] = long
+        yield f"long tokens that end {off} behind a part", books.book_of(bodies), bytes(image)
 
 
 def planted(rng, bodies):
@@ -163,7 +234,7 @@ def main():
     if not PROGRAM.is_file():
         fail("no program", PROGRAM, "is not there; `rt check sweep` makes it")
     count = 0
-    for cases in (missing(), limits(), some(random.Random(3)), many_hits()):
+    for cases in (missing(), limits(), some(random.Random(3)), many_hits(), at_edges()):
         for case in cases:
             compare(*case)
             count += 1
