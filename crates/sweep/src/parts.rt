@@ -32,8 +32,10 @@ fn begin(longest: usize, at: usize) -> usize
     requires { ⌜ 1 ≤ longest ⌝ }
     ensures { λ r. ⌜ r ≡ partFrom longest at ⌝ }
 {
-    let back = longest - 1;
-    if at < back { 0 } else { at - back }
+    if at < longest {
+        return 0;
+    }
+    at - longest + 1
 }
 
 // Where a part of an image of n bytes ends that begins at `from`.
@@ -41,7 +43,10 @@ fn end(n: usize, from: usize) -> usize
     requires { ⌜ from ≤ n ⌝ }
     ensures { λ r. ⌜ r ≡ partTo n from ⌝ }
 {
-    if n - from < PART { n } else { from + PART }
+    if n - from < PART {
+        return n;
+    }
+    from + PART
 }
 
 // The number of hits.
