@@ -1,5 +1,5 @@
 -- What is listed of a part, as the buffers hold it.
-use Prim.Native.Nat.{ℕ, zero, suc, _+_, _-_, _≤_, _<_, min}
+use Prim.Native.Nat.{ℕ, zero, suc, _+_, _-_, _≤_, _<_}
 use native.Mathlib.Omega.{arith}
 use mathlib.Core.Path.{_≡_, refl, ap, sym, subst, _∙_}
 use mathlib.Core.List.{List, [], _∷_, _++_, map, List·Memᴰ, List·Memᴰ·head, List·Memᴰ·tail, Memᴰ·of-map}
@@ -7,18 +7,16 @@ use borrow.Author.Tests.{lt-ltb, le-ltb}
 use lib.Dec.{ltb}
 use lib.ListN.{length, getD, take, drop, length-map, length-take, length-drop, length-append, List·getD-append}
 use lib.Seq.{take-all, take-at}
-use Rattle.rules.specs.Tokens.{longestOf}
 use Rattle.rules.specs.Sweep.{Ordered, moved}
 use Rattle.rules.specs.Laws.Exact.{happens-exact}
-use Rattle.book.specs.Book.{Verdict, accepted}
+use Rattle.book.specs.Book.{accepted}
 use Rattle.book.specs.Laws.Accepted.{accepted-setting, accepted-longest}
 use Rattle.image.specs.declared.Swept.{Swept}
 use Rattle.image.specs.Image.{room, hitsOf, counted, noted}
 use Rattle.image.specs.Results.{sweptOf}
 use Rattle.image.specs.Rule5.{tokensOf}
-use Rattle.sweep.specs.declared.parts.Part.{Part}
-use Rattle.sweep.specs.Parts.{maxHits, maxPart, partFrom, partTo, between, past, fromAt, toAt, partAt, listedAt}
-use Rattle.sweep.specs.Program.{Known, Found, pairs, held, Listing}
+use Rattle.sweep.specs.Parts.{maxHits, maxPart, partFrom, partTo, between, past, fromAt, toAt, partAt}
+use Rattle.sweep.specs.Program.{Known, Answered, pairs, held, Listing}
 use Rattle.sweep.specs.Laws.Whole.{filter-all}
 use Rattle.sweep.specs.Laws.Fits.{part-fits}
 
@@ -76,7 +74,7 @@ module _ (book image : List ℕ) (longest at : ℕ) (known : Known book longest)
   -- it begins at `from` and ends at `to`, and the buffers, as lent and as left, have its hits
   module _ (from to : ℕ) (begins : from ≡ partFrom longest at) (ends-at : to ≡ partTo (length image) from)
       (answer : Swept) (ends numbers ends′ numbers′ : List ℕ) (room-ends : maxHits ≤ length ends) (room-numbers : maxHits ≤ length numbers)
-      (f : Found book (between from to image) answer ends numbers ends′ numbers′) (hits : ℕ) (number : (n : ℕ) → sweptOf answer ≡ accepted n → hits ≡ n) where
+      (f : Answered book (between from to image) answer ends numbers ends′ numbers′) (hits : ℕ) (number : (n : ℕ) → sweptOf answer ≡ accepted n → hits ≡ n) where
     from-is : from ≡ fromAt ts image at
     from-is = begins ∙ ap (λ d. partFrom d at) (known .long)
 
@@ -86,8 +84,8 @@ module _ (book image : List ℕ) (longest at : ℕ) (known : Known book longest)
     abbrev found : List (ℕ × ℕ)
     found = hitsOf ts (partAt ts image at)
 
-    of-part : Found book (partAt ts image at) answer ends numbers ends′ numbers′
-    of-part = subst (λ p. Found book p answer ends numbers ends′ numbers′) (ap (λ p. between p to image) from-is ∙ ap (λ p. between (fromAt ts image at) p image) to-is) f
+    of-part : Answered book (partAt ts image at) answer ends numbers ends′ numbers′
+    of-part = subst (λ p. Answered book p answer ends numbers ends′ numbers′) (ap (λ p. between p to image) from-is ∙ ap (λ p. between (fromAt ts image at) p image) to-is) f
 
     few : length found ≤ room ends numbers
     few = omega (arith, part-fits book ts (known .read) (partAt ts image at) part-short)
@@ -96,10 +94,13 @@ module _ (book image : List ℕ) (longest at : ℕ) (known : Known book longest)
     hits-is : hits ≡ length found
     hits-is = number (length found) (of-part .answer ∙ to-all found (room ends numbers) few (length found) few)
 
-    pub hits-fit : hits ≤ length ends′
+    pub hits-fit : (hits ≤ length ends′) × (hits ≤ length numbers′)
     hits-fit =
         let e = ap length (of-part .in-ends ∙ noted-front found (room ends numbers) few (λ h. h .0) ends) in
-        omega (arith, hits-is, simp length-append at e, length-map found (λ h. h .0))
+        let n = ap length (of-part .in-tokens ∙ noted-front found (room ends numbers) few (λ h. h .1) numbers) in (
+          omega (arith, hits-is, simp length-append at e, length-map found (λ h. h .0)),
+          omega (arith, hits-is, simp length-append at n, length-map found (λ h. h .1)),
+        )
 
     at-end : (i : ℕ) → i < length found → getD ends′ i 0 ≡ getD (map (λ h. h .0) found) i 0
     at-end i l = ap (λ l. getD l i 0) (of-part .in-ends) ∙ noted-at found (room ends numbers) few (λ h. h .0) ends i l
@@ -117,6 +118,7 @@ module _ (book image : List ℕ) (longest at : ℕ) (known : Known book longest)
     listing before h p q = record {
       begins = from-is;
       ends-at = to-is;
+      inside = (h, hits-fit .0, hits-fit .1);
       lists =
           passed-past (fromAt ts image at) at found before
           (happens-exact ts (accepted-setting book ts (known .read)) (partAt ts image at) .occurrences .ordered) (omega (arith, hits-is))

@@ -11,10 +11,10 @@ use Rattle.book.specs.Laws.Accepted.{accepted-fit}
 use Rattle.trie.specs.Tables.{Tables, built, written, shortestTable}
 use Rattle.trie.specs.Laws.Answer.{summed}
 use Rattle.image.specs.declared.Swept.{Swept as Answer}
-use Rattle.image.specs.Image.{Swept, room, hitsOf, fetchesOf, counted, noted, sweepImage}
+use Rattle.image.specs.Image.{room, hitsOf, fetchesOf, counted, noted, sweepImage}
 use Rattle.image.specs.Results.{sweptOf, fetchedOf}
 use Rattle.image.specs.Rule5.{tokensIn, tokensOf}
-use Rattle.sweep.specs.Program.{Accepted, Known, Found}
+use Rattle.sweep.specs.Program.{Accepted, Known, Answered}
 
 module _ (book image : List ℕ) (t : Tables) (ends numbers : List ℕ) (read : Accepted book) (small : length image ≤ maxImage)
     (long : 16385 ≤ shortestTable t) where
@@ -33,7 +33,7 @@ module _ (book image : List ℕ) (t : Tables) (ends numbers : List ℕ) (read : 
 
   pub finds : (r : Answer) (u : Tables) (ends′ numbers′ : List ℕ)
       → record { answer = sweptOf r; fetched = fetchedOf r; tables = u; ends = ends′; tokens = numbers′ } ≡ sweepImage book image t ends numbers
-      → Found book image r ends numbers ends′ numbers′
+      → Answered book image r ends numbers ends′ numbers′
   finds r u ends′ numbers′ e =
       let q = e ∙ swept in
       record { answer = ap (λ s. s .answer) q; fetched = ap (λ s. s .fetched) q; in-ends = ap (λ s. s .ends) q; in-tokens = ap (λ s. s .tokens) q }

@@ -21,7 +21,7 @@ maxPart = 3855
 abbrev pub partFrom : ℕ → ℕ → ℕ
 partFrom longest at = at - (longest - 1)
 
--- Where a part of n bytes' image ends that begins at `from`.
+-- Where a part ends that begins at `from`, in an image of n bytes.
 abbrev pub partTo : ℕ → ℕ → ℕ
 partTo n from = min n (from + maxPart)
 
@@ -37,6 +37,7 @@ abbrev pub upTo : ℕ → List (ℕ × ℕ) → List (ℕ × ℕ)
 upTo to = filter (λ h. leb (h .0) to)
 
 module _ (tokens : List (List ℕ)) (image : List ℕ) where
+  -- where the part that goes on from `at` begins and ends
   abbrev pub fromAt : ℕ → ℕ
   fromAt at = partFrom (longestOf tokens) at
 

@@ -1,5 +1,5 @@
 -- What the program's functions promise: the sweep with tables of its own, and a part as the buffers have it.
-use Prim.Native.Nat.{ℕ}
+use Prim.Native.Nat.{ℕ, _≤_}
 use mathlib.Core.Path.{_≡_}
 use mathlib.Core.List.{List, [], _∷_, map}
 use lib.ListN.{length, take, drop}
@@ -22,7 +22,7 @@ pub record Known (book : List ℕ) (longest : ℕ) : Type 0 where
   pub long : longest ≡ longestOf (tokensOf book)
 
 -- The answer is that of the sweep of the image, and the buffers, as lent and as left, have its hits.
-pub record Found (book image : List ℕ) (r : Swept) (ends numbers ends′ numbers′ : List ℕ) : Type 0 where
+pub record Answered (book image : List ℕ) (r : Swept) (ends numbers ends′ numbers′ : List ℕ) : Type 0 where
   pub answer : sweptOf r ≡ counted (room ends numbers) (length (hitsOf (tokensOf book) image))
   pub fetched : fetchedOf r ≡ fetchesOf (tokensOf book) image
   pub in-ends : ends′ ≡ noted (λ h. h .0) (room ends numbers) (hitsOf (tokensOf book) image) ends
@@ -37,8 +37,10 @@ pairs (e ∷ es) (i ∷ is) = (e, i) ∷ pairs es is
 abbrev pub held : ℕ → List ℕ → List ℕ → List (ℕ × ℕ)
 held n ends numbers = pairs (take n ends) (take n numbers)
 
--- The part goes on from `at`, and what is listed of it are the hits that the buffers hold, but for the first `before`, moved by `from`.
+-- The part goes on from `at`, and what is listed of it are the `hits` hits that the buffers hold, but for the first `before`, moved by
+-- `from`.
 pub record Listing (tokens : List (List ℕ)) (image : List ℕ) (at : ℕ) (p : Part) (ends numbers : List ℕ) : Type 0 where
   pub begins : p .from ≡ fromAt tokens image at
   pub ends-at : p .to ≡ toAt tokens image at
+  pub inside : (p .before ≤ p .hits) × (p .hits ≤ length ends) × (p .hits ≤ length numbers)
   pub lists : listedAt tokens image at ≡ map (moved (p .from)) (drop (p .before) (held (p .hits) ends numbers))

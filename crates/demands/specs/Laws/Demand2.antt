@@ -2,7 +2,7 @@
 use Prim.Native.Nat.{ℕ, suc, _+_, _*_, _≤_}
 use native.Mathlib.Omega.{arith}
 use mathlib.Core.Path.{_≡_, refl, ap, sym, subst, _∙_}
-use mathlib.Core.Bool.{Bool, true, false}
+use mathlib.Core.Bool.{false}
 use mathlib.Core.List.{List}
 use borrow.Author.Tests.{le-ltb}
 use lib.ListN.{length}
@@ -10,15 +10,15 @@ use Rattle.rules.specs.Rules.{fresh}
 use Rattle.rules.specs.Tokens.{shortestOf, longestOf}
 use Rattle.rules.specs.Sweep.{happens, bytesOf, places, hits, Occurrences}
 use Rattle.rules.specs.Laws.Limit.Ends.{steps-enough}
-use Rattle.book.specs.Book.{Reading, readBook, accepted, refused, maxImage}
+use Rattle.book.specs.Book.{readBook, accepted, maxImage}
 use Rattle.book.specs.Laws.Sweep.{book-exact}
 use Rattle.trie.specs.Tables.{Tables, nodes, built, Lent, tooShort, written}
 use Rattle.trie.specs.Walks.{ofTables}
 use Rattle.scan.specs.declared.Scan.{Scan}
 use Rattle.scan.specs.Start.{started, start}
 use Rattle.scan.specs.Calls.{carryOn}
-use Rattle.scan.specs.Answers.{answers, placesIn, hitsIn}
-use Rattle.image.specs.Image.{Swept, tooLong, room, counted, noted, sweepImage}
+use Rattle.scan.specs.Answers.{answers}
+use Rattle.image.specs.Image.{room, counted, noted, sweepImage}
 use Rattle.scan.specs.Laws.Walk.{fresh-sat}
 use Rattle.scan.specs.Laws.Settle.{Settled, carry-settles}
 use Rattle.demands.specs.Demand2.{swept, Demand2, Demand2For}

@@ -2,18 +2,17 @@
 use Prim.Native.Nat.{ℕ, zero, suc, _+_, _-_, _*_, _≤_, _<_}
 use native.Mathlib.Omega.{arith}
 use mathlib.Core.Path.{_≡_, refl, ap, sym, _∙_}
-use mathlib.Core.List.{List, [], _∷_, _++_, map, map-append, List·Memᴰ, List·Memᴰ·head, List·Memᴰ·tail, List·Memᴰ·not-nil, Memᴰ·of-map, Memᴰ·cast}
+use mathlib.Core.List.{List, [], _∷_, _++_, map, map-append, List·Memᴰ, List·Memᴰ·head, List·Memᴰ·tail, Memᴰ·of-map, Memᴰ·cast}
 use borrow.Author.Tests.{lt-ltb, ltb-true, ltb-false}
 use lib.Dec.{ltb}
 use lib.ListN.{length, getD, length-map, List·getD-map}
 use Rattle.rules.specs.Lists.{filter}
-use Rattle.rules.specs.Tokens.{shortestOf, longestOf}
 use Rattle.rules.specs.Sweep.{Stands, Once, Occurrences}
 use Rattle.rules.specs.Laws.Tests.{decide}
 use Rattle.rules.specs.Laws.All.{All, all-append}
 use Rattle.rules.specs.Laws.Exact.{happens-exact}
 use Rattle.rules.specs.Laws.Exact.Reads.{byteOf, reads-eq, stands→reads}
-use Rattle.rules.specs.Laws.Rising.{filter-in, filter-out}
+use Rattle.rules.specs.Laws.Rising.{filter-out}
 use Rattle.book.specs.Book.{readBook, accepted, bodyLength, kindAt, bodyAt, sizeAt}
 use Rattle.book.specs.Laws.Taken.{Taken, opened-length, accepted-keeps}
 use Rattle.book.specs.Laws.Accepted.{accepted-setting}

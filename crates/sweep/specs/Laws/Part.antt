@@ -1,18 +1,16 @@
 -- The hits of a part that end past `at` are those of the whole image, in the same order, if no token that ends there is cut.
-use Prim.Native.Nat.{ℕ, suc, _+_, _-_, _≤_, _<_}
+use Prim.Native.Nat.{ℕ, _+_, _-_, _≤_, _<_}
 use native.Mathlib.Omega.{arith}
-use mathlib.Core.Path.{_≡_, refl, ap, sym, subst, _∙_}
-use mathlib.Core.Bool.{true}
+use mathlib.Core.Path.{_≡_, ap, sym, _∙_}
 use mathlib.Core.List.{List, [], map, List·Memᴰ, Memᴰ·map, Memᴰ·of-map, Memᴰ·cast}
-use borrow.Author.Tests.{lt-ltb, le-leb, ltb-true, leb-true}
+use borrow.Author.Tests.{le-leb, ltb-true, leb-true}
 use lib.Dec.{leb, ltb}
 use lib.ListN.{length, getD, drop, length-take, length-drop}
 use lib.Seq.{getD-take, getD-drop}
-use Rattle.rules.specs.Lists.{filter}
-use Rattle.rules.specs.Tokens.{longestOf, shortestOf, fromRight}
-use Rattle.rules.specs.Sweep.{Stands, Occurrences, moved}
+use Rattle.rules.specs.Tokens.{longestOf, shortestOf}
+use Rattle.rules.specs.Sweep.{Stands, moved}
 use Rattle.rules.specs.Laws.Setting.{Setting}
-use Rattle.rules.specs.Laws.Exact.{Exact, happens-exact}
+use Rattle.rules.specs.Laws.Exact.{happens-exact}
 use Rattle.rules.specs.Laws.Exact.Reads.{byteOf, stands→reads, reads→stands}
 use Rattle.rules.specs.Laws.Rising.{filter-in, filter-out, rising-moved, rising-filter, same-members}
 use Rattle.image.specs.Image.{hitsOf}

@@ -34,7 +34,7 @@ passed-requires c κs = let s = c .before .before .before .before .before .befor
     let a = s .args in
     let k = c .before .before .before .before .before .before .sweep in
     hits-fit (a .book .now) (a .image .now) (a .longest) (a .at) (s .pre .0) (s .pre .1) _ _ (c .before .before .before .before .before .before .before .before .before .before .before .begin .ensures) (c .before .before .before .before .before .before .before .before .before .before .end .ensures)
-    (k .result) (a .ends .now) (a .tokens .now) _ _ (s .pre .2) (s .pre .3) (k .ensures) _ (c .before .number .ensures)
+    (k .result) (a .ends .now) (a .tokens .now) _ _ (s .pre .2) (s .pre .3) (k .ensures) _ (c .before .number .ensures) .0
 
 same-length : tie.Need-same-length
 same-length c = search needs
