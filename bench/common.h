@@ -1,7 +1,8 @@
-/* What the benchmarks share: the calls of the crate `timed`, the tables of random tokens, a plain pass over them, and the clock. */
+/* What the benchmarks share: the calls of the crate `probe`, the tables of random tokens, a plain pass over them, and the clock. */
 #include <stdint.h>
 #include <stdio.h>
 #include <stdlib.h>
+#include <string.h>
 #include <time.h>
 
 #define TABLES(entry, byte) \
@@ -9,11 +10,17 @@
         entry *next, size_t next_len
 #define READ TABLES(const uint16_t, const uint8_t)
 
-size_t timed_read(const uint8_t *book, size_t book_len);
-size_t timed_build(const uint8_t *book, size_t book_len, TABLES(uint16_t, uint8_t));
-size_t timed_test(READ, size_t count);
-size_t timed_carry(READ, size_t n, size_t shortest, size_t nodes);
-size_t timed_supply(READ, size_t n, size_t shortest, size_t nodes, size_t boundary, size_t node, size_t depth, uint8_t byte);
+/* What a call answers: kind 0 is a refusal, with its number and value; the other kinds are in crates/probe/specs/Numbers.antt. */
+typedef struct {
+    size_t kind, numbers[4];
+} told;
+
+told probe_read(const uint8_t *book, size_t book_len);
+told probe_build(const uint8_t *book, size_t book_len, TABLES(uint16_t, uint8_t));
+told probe_test(READ, size_t count);
+told probe_start(size_t *state, size_t state_len, size_t n, size_t shortest, size_t nodes);
+told probe_carry_on(size_t *state, size_t state_len, READ);
+told probe_supply(size_t *state, size_t state_len, READ, uint8_t byte);
 
 enum { ENTRIES = 16385 };
 static uint8_t book[20000];
@@ -36,11 +43,11 @@ static void make_book(size_t count, size_t size) {
     book[book_len++] = 0;
 }
 
-static void build_tables(void) { nodes = timed_build(book, book_len, LENT); }
+static void build_tables(void) { nodes = probe_build(book, book_len, LENT).numbers[0]; }
 
 static void test_tables(void) {
-    sink = timed_test(LENT, nodes);
-    if (sink != nodes) {
+    sink = probe_test(LENT, nodes).kind;
+    if (sink != 1) {
         fprintf(stderr, "the built tables were refused\n");
         exit(1);
     }

@@ -7,7 +7,7 @@ __attribute__((noinline, aligned(64))) static void pass_book(void) {
     sink = sum;
 }
 
-static void read_book(void) { sink = timed_read(book, book_len); }
+static void read_book(void) { sink = probe_read(book, book_len).numbers[0]; }
 
 int main(void) {
     static const size_t cases[][2] = {{256, 64}, {16, 1024}, {256, 8}, {1, 5}};

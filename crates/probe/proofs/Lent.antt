@@ -1,0 +1,59 @@
+-- A lent list that begins with a state, or has no room for one; and a state's five slots, one by one.
+use Prim.Native.Nat.{ℕ, _≤_, _<_}
+use native.Mathlib.Omega.{arith}
+use mathlib.Core.Path.{_≡_, refl, sym, ap, _∙_}
+use mathlib.Core.Bool.{true, false}
+use mathlib.Core.List.{List, [], _∷_, _++_}
+use lib.Dec.{leb}
+use lib.ListN.{length, getD, drop}
+use lib.Seq.{sets, sets-eq}
+use borrow.Author.Tests.{leb-true, le-leb, lt-leb}
+use Rattle.rules.specs.Laws.Tests.{and-l}
+use Rattle.book.specs.Book.{Verdict}
+use Rattle.scan.specs.declared.Scan.{Scan}
+use Rattle.scan.specs.declared.Stretch.{Stretch as Slot}
+use Rattle.scan.specs.State.{unused}
+use Rattle.scan.specs.Start.{stateOf}
+use Rattle.scan.specs.Calls.{Stepped}
+use Rattle.probe.specs.Numbers.{openingOf}
+use Rattle.probe.specs.States.{flag, slotNumbers, isState, stateIn, laidOver, noState, startIn, handed, stepIn}
+
+pub room : (ns : List ℕ) → isState ns ≡ true → 23 ≤ length ns
+room ns e = leb-true 23 (length ns) (and-l (leb 23 (length ns)) (leb (getD ns 6 0) 1) e)
+
+pub on : (step : Scan → Stepped) (ns : List ℕ) → isState ns ≡ true → stepIn step ns ≡ handed (step (stateIn ns)) ns
+on step ns e = rw (stepIn, e)
+
+pub off : (step : Scan → Stepped) (ns : List ℕ) → isState ns ≡ false → stepIn step ns ≡ record { state = ns; told = noState }
+off step ns e = rw (stepIn, e)
+
+pub started : (v : Verdict Scan) (ns : List ℕ) → 23 ≤ length ns
+    → startIn v ns ≡ record { state = laidOver (stateOf v) ns; told = openingOf v }
+started v ns h = rw (startIn, le-leb _ _ h)
+
+pub unstarted : (v : Verdict Scan) (ns : List ℕ) → length ns < 23 → startIn v ns ≡ record { state = ns; told = noState }
+unstarted v ns h = rw (startIn, lt-leb _ _ h)
+
+-- five slots, one by one
+abbrev pub eachSlot : List Slot → List Slot
+eachSlot ss = getD ss 0 unused ∷ getD ss 1 unused ∷ getD ss 2 unused ∷ getD ss 3 unused ∷ getD ss 4 unused ∷ []
+
+five : (ss : List Slot) → length ss ≡ 5 → ss ≡ eachSlot ss
+five [] h = absurd (omega (arith, h))
+five (p ∷ []) h = absurd (omega (arith, h))
+five (p ∷ q ∷ []) h = absurd (omega (arith, h))
+five (p ∷ q ∷ r ∷ []) h = absurd (omega (arith, h))
+five (p ∷ q ∷ r ∷ s ∷ []) h = absurd (omega (arith, h))
+five (p ∷ q ∷ r ∷ s ∷ t ∷ []) h = refl
+five (p ∷ q ∷ r ∷ s ∷ t ∷ u ∷ ss) h = absurd (omega (arith, h))
+
+-- a state's numbers, where n says whether a byte is due and the slots are these
+abbrev pub numbersBy : Scan → ℕ → List Slot → List ℕ
+numbersBy s n ss = s .image ∷ s .shortest ∷ s .count ∷ s .boundary ∷ s .node ∷ s .depth ∷ n ∷ s .supplied ∷ slotNumbers ss
+
+-- All of them stored one by one.
+pub laying : (s : Scan) (n : ℕ) (ns : List ℕ) → length (s .stretches) ≡ 5 → n ≡ flag (s .due) → 23 ≤ length ns
+    → sets ns 0 (numbersBy s n (eachSlot (s .stretches))) ≡ laidOver s ns
+laying s n ns h e k =
+    sets-eq (numbersBy s n (eachSlot (s .stretches))) ns 0 k
+    ∙ ap (λ ss. numbersBy s n ss ++ drop 23 ns) (sym (five (s .stretches) h)) ∙ rw e

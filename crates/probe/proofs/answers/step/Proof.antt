@@ -1,0 +1,27 @@
+-- `step` meets its contract, answer by answer.
+use borrow.Author.Needs.{needs}
+use Rattle.probe.proofs.answers.step.Statement.{statement}
+use Rattle.probe.proofs.answers.step.Tie as tie
+
+pub step-spec : {M : Type 1} → statement M
+step-spec =
+    tie.close
+    (tie.spec
+    (λ c. search needs)
+    (λ c κs. search needs)
+    (λ c. search needs)
+    (λ c κs. search needs)
+    (λ c. search needs)
+    (λ c κs. search needs)
+    (λ c. search needs)
+    (λ c κs. search needs)
+    (λ c. search needs)
+    (λ c κs. search needs)
+    (λ c. search needs)
+    (λ c κs. search needs)
+    (λ c. rw (c .before .before .answer .given .1) (c .tell .ensures))
+    (λ c. rw (c .before .before .answer2 .given .1) (c .tell2 .ensures))
+    (λ c. rw (c .before .enum-told .given .1) (c .tell3 .ensures))
+    (λ c. rw (c .before .before .answer3 .given .1) (c .refused .ensures))
+    (λ c. rw (c .before .enum-told2 .given .1) (c .refused2 .ensures))
+    (λ c. rw (c .before .enum-told3 .given .1) (c .refused3 .ensures)))

@@ -1,0 +1,112 @@
+// The scan state as lent numbers: N, S, the node count, b, node, d, whether a byte is due (1), bytes supplied, and five stretches of
+// left, right and node.
+ghost use mathlib.Core.Path.{_≡_};
+ghost use mathlib.Core.Bool.{true};
+ghost use Prim.Native.Nat.{_+_, _≤_};
+ghost use lib.ListN.{length};
+ghost use Rattle.scan.specs.Results.{steppedOf};
+ghost use Rattle.probe.specs.States.{flag, slotIn, noState, isState, stateIn, laidOver, handed};
+use crate::Told;
+use crate::answers;
+use scan::Scan;
+use scan::Stepped;
+use scan::Stretch;
+
+pub const NUMBERS: usize = 23;
+
+pub fn no_state() -> Told
+    ensures { λ r. ⌜ r ≡ noState ⌝ }
+{
+    answers::tell(4, 0, 0, 0, 0)
+}
+
+pub fn is_state(numbers: &[usize]) -> bool
+    ensures { λ r. ⌜ r ≡ isState (now (numbers .entry)) ⌝ }
+{
+    if numbers.len() < NUMBERS {
+        return false;
+    }
+    numbers[6] <= 1
+}
+
+fn stretch(numbers: &[usize], at: usize) -> Stretch
+    requires { ⌜ at + 3 ≤ length (now numbers) ⌝ }
+    ensures { λ r. ⌜ r ≡ slotIn (now (numbers .entry)) at ⌝ }
+{
+    Stretch {
+        left: numbers[at],
+        right: numbers[at + 1],
+        node: numbers[at + 2],
+    }
+}
+
+pub fn state_in(numbers: &[usize]) -> Scan
+    requires { ⌜ 23 ≤ length (now numbers) ⌝ }
+    ensures { λ r. ⌜ r ≡ stateIn (now (numbers .entry)) ⌝ }
+{
+    Scan {
+        image: numbers[0],
+        shortest: numbers[1],
+        count: numbers[2],
+        boundary: numbers[3],
+        node: numbers[4],
+        depth: numbers[5],
+        due: numbers[6] == 1,
+        stretches: [
+            stretch(numbers, 8),
+            stretch(numbers, 11),
+            stretch(numbers, 14),
+            stretch(numbers, 17),
+            stretch(numbers, 20),
+        ],
+        supplied: numbers[7],
+    }
+}
+
+fn due_number(due: bool) -> usize
+    ensures { λ r. ⌜ r ≡ flag due ⌝ }
+{
+    if due { 1 } else { 0 }
+}
+
+// Numbers behind those of the state stay.
+pub fn lay(numbers: &mut [usize], s: Scan)
+    requires { ⌜ 23 ≤ length (now numbers) ⌝ }
+    ensures { λ _. ⌜ now (numbers .exit) ≡ laidOver s (now (numbers .entry)) ⌝ }
+{
+    let slots = s.stretches;
+    numbers[0] = s.image;
+    numbers[1] = s.shortest;
+    numbers[2] = s.count;
+    numbers[3] = s.boundary;
+    numbers[4] = s.node;
+    numbers[5] = s.depth;
+    numbers[6] = due_number(s.due);
+    numbers[7] = s.supplied;
+    numbers[8] = slots[0].left;
+    numbers[9] = slots[0].right;
+    numbers[10] = slots[0].node;
+    numbers[11] = slots[1].left;
+    numbers[12] = slots[1].right;
+    numbers[13] = slots[1].node;
+    numbers[14] = slots[2].left;
+    numbers[15] = slots[2].right;
+    numbers[16] = slots[2].node;
+    numbers[17] = slots[3].left;
+    numbers[18] = slots[3].right;
+    numbers[19] = slots[3].node;
+    numbers[20] = slots[4].left;
+    numbers[21] = slots[4].right;
+    numbers[22] = slots[4].node;
+}
+
+// A step's next state is laid over the numbers it was read from.
+pub fn hand_back(numbers: &mut [usize], stepped: Stepped) -> Told
+    requires { ⌜ 23 ≤ length (now numbers) ⌝ }
+    ensures { λ r. ⌜ record { state = now (numbers .exit); told = r } ≡ handed (steppedOf stepped) (now (numbers .entry)) ⌝ }
+{
+    let state = stepped.state;
+    let answer = stepped.answer;
+    lay(numbers, state);
+    answers::step(answer)
+}

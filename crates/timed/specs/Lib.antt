@@ -1,2 +1,0 @@
--- The one number that stands for an answer in the benchmark.
-pub mod Numbers
