@@ -1,6 +1,6 @@
 #!/usr/bin/env python3
-"""Holds tools/book.py to the proved reader: over the stored books of crates/books `show` gives the reader's refusal, or as many tokens of
-these lengths, and `make` of what it shows is the same book. Then lists that no book can hold, and wrong uses."""
+"""Holds tools/book.py to the proved reader: over the books of books.py `show` gives the reader's refusal, or as many tokens of these
+lengths, and `make` of what it shows is the same book. Then lists that no book can hold, and wrong uses."""
 import pathlib
 import subprocess
 import sys
@@ -10,19 +10,8 @@ ROOT = pathlib.Path(__file__).resolve().parent.parent
 TOOL = ROOT / "tools" / "book.py"
 sys.path.insert(0, str(TOOL.parent))
 import book as tool
-
-HEAD, LINES = 22, 5  # of a case, and of what the program `books` prints for it (books.py)
-
-
-def stored():
-    """Each stored book with the proved reader's answer."""
-    data, lines = (ROOT / "crates/books/stdin").read_bytes(), (ROOT / "crates/books/stdout").read_text().split("\n")
-    at = case = 0
-    while at < len(data):
-        end = at + HEAD + int.from_bytes(data[at : at + 2], "little")
-        yield case, data[at + HEAD : end], lines[LINES * case]
-        at, case = end, case + 1
-
+import books
+import proved
 
 def fail(*words):
     print("book tool:", *words)
@@ -30,15 +19,16 @@ def fail(*words):
 
 
 def answer(book):
-    """What `show` says, in the words of the program `books`; the tokens come back as the same book."""
+    """What `show` says, as the proved reader tells it; the tokens come back as the same book."""
     try:
         shown = tool.shown(book)
     except tool.Refused as why:
-        return str(why).split(":")[0]
+        _, number, value = str(why).split(":")[0].split()
+        return (0, int(number), int(value), 0, 0)
     if tool.made(shown, "shown") != book:
         return "another book is made of what is shown"
     sizes = [len(line) // 2 for line in shown.split("\n") if line and line[0] != "#"]
-    return f"read {len(sizes)} {sum(sizes)} {min(sizes)} {max(sizes)}"
+    return (1, len(sizes), sum(sizes), min(sizes), max(sizes))
 
 
 def listed(*bodies):
@@ -78,14 +68,14 @@ def use(given, words, code, part):
 
 def main():
     count = 0
-    for case, book, wanted in stored():
-        said = answer(book)
+    for case, (book, *_) in enumerate(books.cases()):
+        said, wanted = answer(book), proved.call("probe_read", proved.Lent(proved.BYTES, book))
         if said != wanted:
-            fail(f"book {case}: {said}, but the proved reader says {wanted}")
+            fail(f"book {case}: {said}, but the proved reader tells {wanted}")
         count += 1
     for one in USES:
         use(*one)
-    print(f"book tool: {count} stored books are shown as the proved reader reads them, and made again; {len(USES)} uses end as they must")
+    print(f"book tool: {count} books are shown as the proved reader reads them, and made again; {len(USES)} uses end as they must")
 
 
 if __name__ == "__main__":

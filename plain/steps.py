@@ -1,25 +1,16 @@
-#!/usr/bin/env python3
-"""Cases for the program `steps`, and what it must print: the sweep by single bytes, plainly, from document 01 alone.
+"""The sweep by single bytes, plainly, from document 01 alone, and states to step from.
 
-`steps.py` writes crates/steps/stdin and crates/steps/stdout; `steps.py --check` says whether they are what it would write. Both fail
-where a cause of refusal 9, 10 or 11, an end of a range or a kind of answer (`wanted`) is not met by any case.
-
-A case is eight 16-bit numbers, low byte first: the lengths of the five tables, and how many state numbers, nodes and calls follow. A
-state is 23 numbers of 32 bits: N, S, node count, b, node, d, whether a byte is due, bytes supplied, and five stretches of left, right
-and node; the upper half stands for the greatest 64-bit numbers. A node is 9 bytes: parent, label, token, first child, next sibling.
-Zeros at the end of a state and of the tables are left out. A call is 16 bits: a byte to supply, or 256 to carry on.
+A case is five tables, a state and the calls made from it: a byte to supply, or CARRY to carry on. `seen` counts the causes of refusals 9,
+10 and 11, the ends of ranges and the kinds of answers that calls met; `wanted` names those that some case must meet.
 """
 import collections
 import copy
 import random
-import sys
 
-import stored
 import tables
 
 CARRY = 256
 NODES, IMAGE, BODY, MOST = 16385, 16777216, 1024, 1000000000
-ROOM = 16400  # entries that a table of the program has room for
 TABLES = ("parent", "label", "token", "first child", "next sibling")
 
 # What the cases met, by name.
@@ -530,41 +521,3 @@ def cases():
         yield arbitrary(rng)
     for _ in range(60):
         yield sweep(some_bodies(rng), some_image(rng))[:3]
-
-
-def used(numbers):
-    """How many numbers there are up to the last that is not 0."""
-    return max((i + 1 for i, x in enumerate(numbers) if x), default=0)
-
-
-def written(lists, state, calls):
-    """The bytes of a case."""
-    numbers = state.numbers()[: used(state.numbers())]
-    assert all(x < 2**31 or 2**64 - 2**31 <= x < 2**64 for x in numbers)
-    assert max(map(len, lists)) <= ROOM
-    n = max(map(used, lists))
-    nodes = zip(*(l[:n] + [0] * (n - len(l)) for l in lists))
-    out = b"".join(x.to_bytes(2, "little") for x in [*map(len, lists), len(numbers), n, len(calls)])
-    out += b"".join((x % 2**32).to_bytes(4, "little") for x in numbers)
-    out += b"".join(x.to_bytes(1 if k == 1 else 2, "little") for node in nodes for k, x in enumerate(node))
-    return out + b"".join(x.to_bytes(2, "little") for x in calls)
-
-
-def main():
-    all_cases, stdin, stdout = list(cases()), b"", []
-    seen.clear()
-    for lists, state, calls in all_cases:
-        stdin += written(lists, state, calls)
-        state = copy.deepcopy(state)
-        stdout += [call(lists, state, what) for what in calls]
-        stdout.append("state " + " ".join(map(str, state.numbers())))
-    missing = [name for name in wanted() if not seen[name]]
-    for name in missing:
-        print("steps: no case meets:", name)
-    if missing:
-        sys.exit(1)
-    stored.keep("steps", stdin, "\n".join(stdout) + "\n")
-
-
-if __name__ == "__main__":
-    main()

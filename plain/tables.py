@@ -39,6 +39,12 @@ def token(book, i):
     return (sum(1 + len(b) for b in bodies[: i - 1]) + 1, len(bodies[i - 1]))
 
 
+def body_at(book, at):
+    """Length of the body of the record at a place, 0 where no whole record stands."""
+    size = LENGTHS.get(book[at], 0) if at < len(book) else 0
+    return size if at + 1 + size <= len(book) else 0
+
+
 def build(bodies):
     """The five tables, as lists: nodes are endings in order of first occurrence."""
     nodes = {b"": 0}
@@ -60,6 +66,16 @@ def build(bodies):
     for i, body in enumerate(bodies):
         tok[nodes[body]] = i + 1
     return [parent, label, tok, first, following]
+
+
+def walk(label, following, count, at, byte):
+    """The first node of a chain with that label, or None, and the last node before; what a table lacks is 0."""
+    last = 0
+    while count and at:
+        if (label[at] if at < len(label) else 0) == byte:
+            return at, last
+        last, at, count = at, following[at] if at < len(following) else 0, count - 1
+    return None, last
 
 
 def first_break(tables, count):

@@ -1,1 +1,74 @@
--- Samples.
+-- Samples: the numbers of each kind of answer, and a state through its numbers and back.
+use Prim.Native.Nat.{ℕ}
+use mathlib.Core.Path.{_≡_, refl}
+use mathlib.Core.List.{List, [], _∷_, _++_}
+use mathlib.Core.Option.{some, none}
+use lib.ListN.{take, set, replicate}
+use Rattle.book.specs.Book.{accepted, refused, found, missing, unread}
+use Rattle.trie.specs.declared.chain.Way.the-variants.{Found, Ends}
+use Rattle.scan.specs.declared.Scan.{Scan}
+use Rattle.scan.specs.Start.{start}
+use Rattle.scan.specs.Calls.{fetch, found as hit, over, refused as denied, Stepped}
+use Rattle.probe.specs.declared.Told.{Told}
+use Rattle.probe.specs.Numbers.{told, readingOf, placeOf, sizesTold, testedOf, childOf, wayOf, stepOf}
+use Rattle.probe.specs.States.{Lent, numbersOf, stateIn, startIn, stepIn}
+
+-- each answer as one list, its kind first
+plain : Told → List ℕ
+plain t = t .kind ∷ t .numbers
+
+answers : List (List ℕ)
+unfolding plain
+answers =
+    plain (readingOf (refused 4 12)) ∷ plain (readingOf (accepted (record { tokens = 3; bodies = 20; shortest = 2; longest = 16 })))
+    ∷ plain (placeOf (found 7 5)) ∷ plain (placeOf missing) ∷ plain (placeOf unread)
+    ∷ plain (sizesTold (refused 7 21)) ∷ plain (sizesTold (accepted (record { nodes = 19; shortest = 2; longest = 16 })))
+    ∷ plain (testedOf none) ∷ plain (testedOf (some 9))
+    ∷ plain (childOf (some 8)) ∷ plain (childOf none)
+    ∷ plain (wayOf (Found 8)) ∷ plain (wayOf (Ends 8))
+    ∷ plain (stepOf (fetch 9)) ∷ plain (stepOf (hit 9 2)) ∷ plain (stepOf over) ∷ plain (stepOf (denied 9 9))
+    ∷ []
+
+answers-told : answers
+    ≡ (0 ∷ 4 ∷ 12 ∷ 0 ∷ 0 ∷ []) ∷ (1 ∷ 3 ∷ 20 ∷ 2 ∷ 16 ∷ [])
+    ∷ (1 ∷ 7 ∷ 5 ∷ 0 ∷ 0 ∷ []) ∷ (2 ∷ 0 ∷ 0 ∷ 0 ∷ 0 ∷ []) ∷ (3 ∷ 0 ∷ 0 ∷ 0 ∷ 0 ∷ [])
+    ∷ (0 ∷ 7 ∷ 21 ∷ 0 ∷ 0 ∷ []) ∷ (1 ∷ 19 ∷ 2 ∷ 16 ∷ 0 ∷ [])
+    ∷ (1 ∷ 0 ∷ 0 ∷ 0 ∷ 0 ∷ []) ∷ (0 ∷ 9 ∷ 9 ∷ 0 ∷ 0 ∷ [])
+    ∷ (1 ∷ 8 ∷ 0 ∷ 0 ∷ 0 ∷ []) ∷ (2 ∷ 0 ∷ 0 ∷ 0 ∷ 0 ∷ [])
+    ∷ (1 ∷ 8 ∷ 0 ∷ 0 ∷ 0 ∷ []) ∷ (2 ∷ 8 ∷ 0 ∷ 0 ∷ 0 ∷ [])
+    ∷ (1 ∷ 9 ∷ 0 ∷ 0 ∷ 0 ∷ []) ∷ (2 ∷ 9 ∷ 2 ∷ 0 ∷ 0 ∷ []) ∷ (3 ∷ 0 ∷ 0 ∷ 0 ∷ 0 ∷ []) ∷ (0 ∷ 9 ∷ 9 ∷ 0 ∷ 0 ∷ [])
+    ∷ []
+unfolding answers
+answers-told = refl
+
+-- 23 numbers, all different but for the byte that is due
+state : List ℕ
+state =
+    30 ∷ 20 ∷ 21 ∷ 25 ∷ 2 ∷ 3 ∷ 1 ∷ 7
+    ∷ 8 ∷ 9 ∷ 10 ∷ 11 ∷ 12 ∷ 13 ∷ 14 ∷ 15 ∷ 16 ∷ 17 ∷ 18 ∷ 19 ∷ 26 ∷ 27 ∷ 28 ∷ []
+
+there-and-back : numbersOf (stateIn state) ≡ state
+unfolding state
+there-and-back = refl
+
+-- a step that hands back the state it is given
+stay : Scan → Stepped
+stay s = record { state = s; answer = over }
+
+-- What follows the state stays; a list that is a number short, or whose seventh number is neither 0 nor 1, is told apart and stays.
+rows : List Lent
+unfolding state stay
+rows =
+    stepIn stay (state ++ (5 ∷ 6 ∷ [])) ∷ stepIn stay (take 22 state) ∷ stepIn stay (set state 6 2)
+    ∷ startIn (start 8 5 6) (state ++ (5 ∷ [])) ∷ startIn (start 16777217 5 6) state ∷ startIn (start 8 5 6) (take 22 state)
+    ∷ []
+
+left : List ℕ → ℕ → ℕ → ℕ → Lent
+left ns kind a b = record { state = ns; told = told kind a b 0 0 }
+
+rows-left : rows
+    ≡ left (state ++ (5 ∷ 6 ∷ [])) 3 0 0 ∷ left (take 22 state) 4 0 0 ∷ left (set state 6 2) 4 0 0
+    ∷ left (8 ∷ 5 ∷ 6 ∷ 5 ∷ replicate 19 0 ++ (5 ∷ [])) 1 0 0 ∷ left (replicate 23 0) 0 8 16777216 ∷ left (take 22 state) 4 0 0
+    ∷ []
+unfolding rows left state stay
+rows-left = refl

@@ -1,0 +1,216 @@
+#!/usr/bin/env python3
+"""Compares the proved calls with the plain readings of document 01: every answer, and all that the lent tables and states then hold, with
+what lies around them. The books of books.py and the states of steps.py come first, and must be as many as COUNTS says and meet all that
+`steps.wanted` names; then as many fresh random ones. Fails at the first difference and says where.
+
+  plain/calls.py            with a new seed, which it prints
+  plain/calls.py --seed N   the random cases of that seed again
+"""
+import argparse
+import copy
+import random
+import sys
+
+import books
+import proved
+import steps
+import tables
+from proved import BYTES, ENTRIES, NUMBERS, Byte, Lent
+
+COUNTS = (407, 526, 7566)  # books, states, and steps from them
+FRESH = (3000, 2000, 500)  # random books, states, and whole sweeps
+FILL = 0xA5  # in lent tables
+BEHIND = [7, 0, 2**64 - 1]  # behind the numbers of a state
+FAR = 2**64 - 1
+NO_STATE = (4, 0, 0, 0, 0)
+KIND = {"refused": 0, "fetch": 1, "hit": 2, "done": 3}
+
+
+class Differs(Exception):
+    pass
+
+
+made = 0
+
+
+def told(kind, *numbers):
+    return (kind, *numbers, 0, 0, 0, 0)[:5]
+
+
+def expect(name, given, wanted, after=()):
+    """Calls, and compares the answer, and each lent slice with what is wanted of it; nothing said, it stays as it was."""
+    global made
+    after = dict(after)
+    contents = [x.around(after.get(i, x.content())) if isinstance(x, Lent) else None for i, x in enumerate(given)]
+    said = proved.call(name, *given)
+    made += 1
+    if said != wanted:
+        raise Differs(f"{name} tells {said}, wanted {wanted}")
+    for i, x in enumerate(given):
+        if isinstance(x, Lent) and x.whole != contents[i]:
+            at = next(k for k, (a, b) in enumerate(zip(x.whole, contents[i])) if a != b)
+            raise Differs(f"{name} leaves {x.whole[at]} at {at - proved.GUARD} of its slice {i}, wanted {contents[i][at]}")
+
+
+def lend(lists):
+    return [Lent(BYTES if k == 1 else ENTRIES, entries) for k, entries in enumerate(lists)]
+
+
+# Books: reading, placing, building, testing, walking
+
+
+def reading_told(reading):
+    if reading[0] == "refused":
+        return told(0, *reading[1:])
+    sizes = [len(body) for body in reading[1]]
+    return told(1, len(sizes), sum(sizes), min(sizes), max(sizes))
+
+
+def place_told(place):
+    return told(3) if place == "unread" else told(2) if place is None else told(1, *place)
+
+
+def building(reading, lengths):
+    """What building tells, and the tables then."""
+    lists = [[FILL] * n for n in lengths]
+    if reading[0] == "refused":
+        return told(0, *reading[1:]), lists
+    sizes = [len(body) for body in reading[1]]
+    if min(lengths) < 1 + sum(sizes):
+        return told(0, 7, 1 + sum(sizes)), lists
+    built = tables.build(reading[1])
+    for k in range(5):
+        lists[k][: len(built[k])] = built[k]
+    return told(1, len(built[0]), min(sizes), max(sizes)), lists
+
+
+def book_case(book, lengths, i, damage, count):
+    lent, reading = Lent(BYTES, book), tables.read(book)
+    expect("probe_read", [lent], reading_told(reading))
+    for k in (i, 0, 1, FAR):
+        expect("probe_token", [lent, k], place_told(tables.token(book, k)))
+    for at in (*range(min(len(book) + 2, 40)), FAR):
+        expect("probe_body_at", [lent, at], tables.body_at(book, at))
+    wanted, lists = building(reading, lengths)
+    slices = lend([[FILL] * n for n in lengths])
+    expect("probe_build", [lent, *slices], wanted, enumerate(lists, 1))
+    which, at, value = damage
+    if which < 5 and at < lengths[which]:
+        lists[which][at] = value % 256 if which == 1 else value
+        slices = lend(lists)
+    broken = tables.first_break(lists, count)
+    expect("probe_test", [*slices, count], told(1) if broken is None else told(0, 9, broken))
+    for node in {0, 1, at, max(0, count - 1), count, FAR}:
+        walks(lists, slices, count, node, b"abcx"[node % 4])
+
+
+def walks(lists, slices, count, node, byte):
+    label, first, following = lists[1], lists[3], lists[4]
+    head = first[node] if node < len(first) else 0
+    found, _ = tables.walk(label, following, count, head, byte)
+    given = [slices[1], slices[3], slices[4], count, node, Byte(byte)]
+    expect("probe_child", given, told(2) if found is None else told(1, found))
+    found, last = tables.walk(label, following, count, node, byte)
+    given = [slices[1], slices[4], count, node, Byte(byte)]
+    expect("probe_walk", given, told(2, last) if found is None else told(1, found))
+
+
+# States: starting and stepping
+
+
+def step(state, slices, what, wanted, after=()):
+    if what == steps.CARRY:
+        expect("probe_carry_on", [state, *slices], wanted, after)
+    else:
+        expect("probe_supply", [state, *slices, Byte(what)], wanted, after)
+
+
+def state_case(lists, state, calls):
+    slices, state = lend(lists), copy.deepcopy(state)
+    lent = Lent(NUMBERS, state.numbers() + BEHIND)
+    for what in calls:
+        word, *values = steps.call(lists, state, what).split()
+        step(lent, slices, what, told(KIND[word], *map(int, values)), {0: state.numbers() + BEHIND}.items())
+
+
+def start_case(n, shortest, nodes):
+    lent = Lent(NUMBERS, [FILL] * 23 + BEHIND)
+    wanted, state = (told(1), steps.State(n, shortest, nodes)) if n <= steps.IMAGE else (told(0, 8, steps.IMAGE), steps.State(0, 0, 0))
+    expect("probe_start", [lent, n, shortest, nodes], wanted, {0: state.numbers() + BEHIND}.items())
+
+
+def no_state(lists, numbers, what):
+    """The numbers are too few, or the one that says whether a byte is due is neither 0 nor 1."""
+    lent = Lent(NUMBERS, numbers)
+    step(lent, lend(lists), what, NO_STATE)
+    if len(numbers) < 23:
+        expect("probe_start", [lent, 9, 1, 2], NO_STATE)
+
+
+def starts():
+    for n in (0, 4, steps.IMAGE - 1, steps.IMAGE, steps.IMAGE + 1, FAR):
+        for shortest, nodes in ((5, 6), (0, 0), (1024, 16385), (FAR, FAR)):
+            yield start_case, (n, shortest, nodes)
+
+
+def no_states():
+    lists, shortest, count = steps.built([b"axbbx"])
+    numbers = steps.State(8, shortest, count).numbers()
+    for what in (steps.CARRY, 97):
+        for n in range(23):
+            yield no_state, (lists, numbers[:n], what)
+        for due in (2, 256, FAR):
+            yield no_state, (lists, numbers[:6] + [due] + numbers[7:] + BEHIND, what)
+
+
+# All cases
+
+
+def fresh(rng):
+    for _ in range(FRESH[0]):
+        yield book_case, books.arbitrary(rng)
+    for i in range(FRESH[1] + FRESH[2]):
+        case = steps.arbitrary(rng) if i < FRESH[1] else steps.sweep(steps.some_bodies(rng), steps.some_image(rng))[:3]
+        yield state_case, case
+        numbers = case[1].numbers() + BEHIND
+        cut = numbers[: rng.randrange(23)] if rng.random() < 0.5 else numbers[:6] + [rng.choice([2, 3, FAR])] + numbers[7:]
+        yield no_state, (case[0], cut, rng.choice([steps.CARRY, 97]))
+        yield start_case, (rng.choice([rng.randint(0, 99), steps.IMAGE + rng.randint(-1, 1)]), rng.randint(0, 2000), rng.randint(0, 20000))
+
+
+def run(name, cases):
+    for i, (check, case) in enumerate(cases):
+        try:
+            check(*case)
+        except Differs as why:
+            print(f"calls: {name} {i}, {check.__name__}: {why}")
+            print("  ", repr(case if check is not state_case else (case[0], case[1].numbers(), case[2]))[:2000])
+            sys.exit(1)
+
+
+def main():
+    parser = argparse.ArgumentParser(description=__doc__, formatter_class=argparse.RawDescriptionHelpFormatter)
+    parser.add_argument("--seed", type=int, default=random.SystemRandom().randrange(2**32))
+    seed = parser.parse_args().seed
+    print(f"calls: seed {seed}", flush=True)
+    all_books, all_states = list(books.cases()), list(steps.cases())
+    counts = (len(all_books), len(all_states), sum(len(calls) for _, _, calls in all_states))
+    if counts != COUNTS:
+        sys.exit(f"calls: {counts} books, states and steps, wanted {COUNTS}")
+    steps.seen.clear()
+    run("book", ((book_case, case) for case in all_books))
+    run("state", ((state_case, case) for case in all_states))
+    missing = [name for name in steps.wanted() if not steps.seen[name]]
+    if missing:
+        sys.exit("calls: no case meets: " + "; ".join(missing))
+    run("start", starts())
+    run("no state", no_states())
+    run(f"seed {seed}, case", fresh(random.Random(seed)))
+    print(
+        f"calls: {counts[0]} books and {counts[1]} states with {counts[2]} steps, which meet {len(list(steps.wanted()))} causes, and "
+        f"{FRESH[0]} books and {FRESH[1] + FRESH[2]} states of seed {seed}: {made} calls tell and leave what the plain readings say"
+    )
+
+
+if __name__ == "__main__":
+    main()
