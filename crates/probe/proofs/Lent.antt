@@ -13,10 +13,13 @@ use Rattle.book.specs.Book.{Verdict}
 use Rattle.scan.specs.declared.Scan.{Scan}
 use Rattle.scan.specs.declared.Stretch.{Stretch as Slot}
 use Rattle.scan.specs.State.{unused}
-use Rattle.scan.specs.Start.{stateOf}
 use Rattle.scan.specs.Calls.{Stepped}
+use Rattle.scan.specs.Results.{Opened, opened}
 use Rattle.probe.specs.Numbers.{openingOf}
-use Rattle.probe.specs.States.{flag, slotNumbers, isState, stateIn, laidOver, noState, startIn, handed, stepIn}
+use Rattle.probe.specs.States.{Lent, flag, slotNumbers, isState, stateIn, laidOver, noState, startIn, handed, stepIn}
+
+pub isState-room : (ns : List ℕ) → 23 ≤ length ns → isState ns ≡ leb (getD ns 6 0) 1
+isState-room ns h = rw (isState, le-leb _ _ h)
 
 pub room : (ns : List ℕ) → isState ns ≡ true → 23 ≤ length ns
 room ns e = leb-true 23 (length ns) (and-l (leb 23 (length ns)) (leb (getD ns 6 0) 1) e)
@@ -27,8 +30,11 @@ on step ns e = rw (stepIn, e)
 pub off : (step : Scan → Stepped) (ns : List ℕ) → isState ns ≡ false → stepIn step ns ≡ record { state = ns; told = noState }
 off step ns e = rw (stepIn, e)
 
-pub started : (v : Verdict Scan) (ns : List ℕ) → 23 ≤ length ns
-    → startIn v ns ≡ record { state = laidOver (stateOf v) ns; told = openingOf v }
+-- what a start leaves in a list with room
+abbrev pub startedIn : List ℕ → Opened → Lent
+startedIn ns o = record { state = laidOver (o .state) ns; told = openingOf (o .verdict) }
+
+pub started : (v : Verdict Scan) (ns : List ℕ) → 23 ≤ length ns → startIn v ns ≡ startedIn ns (opened v)
 started v ns h = rw (startIn, le-leb _ _ h)
 
 pub unstarted : (v : Verdict Scan) (ns : List ℕ) → length ns < 23 → startIn v ns ≡ record { state = ns; told = noState }

@@ -1,9 +1,7 @@
 -- The equations of starting and of laying the state, joined.
 use mathlib.Core.Path.{ap, sym, _∙_}
 use Rattle.scan.specs.Start.{start}
-use Rattle.probe.specs.Numbers.{openingOf}
-use Rattle.probe.specs.States.{laidOver}
-use Rattle.probe.proofs.Lent.{started, unstarted}
+use Rattle.probe.proofs.Lent.{startedIn, started, unstarted}
 use borrow.Author.Needs.{needs}
 use Rattle.probe.proofs.probe_start.Statement.{statement}
 use Rattle.probe.proofs.probe_start.Tie as tie
@@ -15,9 +13,8 @@ returns-2 : tie.Need-returns-2
 returns-2 c =
     let a = c .before .before .before .before .before .before .before .before .before .args in
     let e = c .before .before .before .before .before .before .start .ensures in
-    let laid = c .before .before .before .lay .ensures ∙ ap (λ s. laidOver s (a .state .now)) (ap (λ o. o .state) e) in
-    let said = c .opening .ensures _ ∙ ap (λ o. openingOf (o .verdict)) e in
-    rw (started (start (a .n) (a .shortest) (a .nodes)) (a .state .now) (c .before .before .before .before .before .before .before .if1 .left), laid, said)
+    rw (c .before .before .before .lay .ensures, c .opening .ensures (c .before .before .before .before .before .before .start .result .state))
+    (ap (startedIn (a .state .now)) e ∙ sym (started (start (a .n) (a .shortest) (a .nodes)) (a .state .now) (c .before .before .before .before .before .before .before .if1 .left)))
 
 pub probe-start-spec : {M : Type 1} → statement M
 probe-start-spec =

@@ -1,6 +1,8 @@
 -- The two tests, one after the other.
-use borrow.Author.Tests.{lt-leb, le-leb}
+use mathlib.Core.Path.{sym}
+use borrow.Author.Tests.{lt-leb}
 use borrow.Author.Needs.{needs}
+use Rattle.probe.proofs.Lent.{isState-room}
 use Rattle.probe.proofs.states.is_state.Statement.{statement}
 use Rattle.probe.proofs.states.is_state.Tie as tie
 
@@ -10,4 +12,4 @@ is-state-spec =
     (tie.spec
     (λ c. simp (lt-leb _ _ (c .if1 .taken)))
     (λ c. search needs)
-    (λ c. simp (le-leb _ _ (c .before .if1 .left))))
+    (λ c. sym (isState-room (c .before .before .args .numbers .now) (c .before .if1 .left))))
