@@ -8,7 +8,7 @@ use lib.ListN.{length, getD, take}
 use Rattle.rules.specs.Tokens.{shortestOf}
 use Rattle.rules.specs.Sweep.{happens, bytesOf, places, hits, Occurrences}
 use Rattle.book.specs.Book.{readBook, accepted}
-use Rattle.trie.specs.Tables.{Tables, nodes, built, Lent, tooShort, written}
+use Rattle.tables.specs.Tables.{Tables, nodes, built, Lent, tooShort, written}
 use Rattle.scan.specs.declared.Scan.{Scan}
 use Rattle.scan.specs.Start.{start}
 use Rattle.scan.specs.Calls.{Answer, fetch, found, over, refused, Stepped, carryOn, supply}

@@ -8,7 +8,7 @@ use lib.ListN.{length, getD}
 use Rattle.rules.specs.Tokens.{shortestOf, longestOf}
 use Rattle.rules.specs.Sweep.{happens, limit, Few}
 use Rattle.book.specs.Book.{readBook, accepted}
-use Rattle.trie.specs.Tables.{Tables, nodes, built, Lent}
+use Rattle.tables.specs.Tables.{Tables, nodes, built, Lent}
 use Rattle.scan.specs.declared.Scan.{Scan}
 use Rattle.scan.specs.State.{used}
 use Rattle.scan.specs.Start.{start}

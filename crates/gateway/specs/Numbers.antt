@@ -1,7 +1,7 @@
 -- Answers as numbers: refusal 0 means none, with value 0; on a refusal the numbers after its value are 0.
 use Prim.Native.Nat.{ℕ}
 use Rattle.book.specs.Book.{Verdict, accepted, refused}
-use Rattle.trie.specs.Tables.{Sizes}
+use Rattle.tables.specs.Tables.{Sizes}
 use Rattle.gateway.specs.declared.Built.{Built}
 use Rattle.gateway.specs.declared.Swept.{Swept}
 

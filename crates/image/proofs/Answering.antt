@@ -10,10 +10,10 @@ use Rattle.rules.specs.Tokens.{total}
 use Rattle.rules.specs.Laws.Tests.{decide}
 use Rattle.book.specs.Book.{Verdict, Reading, accepted, refused, Totals, summary, readBook, maxImage}
 use Rattle.book.specs.Laws.Accepted.{accepted-fit}
-use Rattle.trie.specs.Tables.{Tables, nodes, built, Lent, written, tooShort, shortestTable, Sizes, Building, build}
-use Rattle.trie.specs.Laws.Building.{sizesOf, written-lent, answerTo}
+use Rattle.tables.specs.Tables.{Tables, nodes, built, Lent, written, tooShort, shortestTable, Sizes, Building, build}
+use Rattle.tables.specs.Laws.Building.{sizesOf, written-lent, answerTo}
 use Rattle.trie.specs.Laws.Answer.{Summed}
-use Rattle.trie.specs.Laws.Represents.{built-represents}
+use Rattle.tables.specs.Laws.Represents.{built-represents}
 use Rattle.image.specs.Image.{Swept, tooLong, room, hitsOf, fetchesOf, counted, noted, sweepImage}
 use Rattle.image.specs.Results.{refusalFor}
 use Rattle.image.specs.Rule5.{tokensIn, tokensOf}
@@ -207,20 +207,7 @@ module _ {book : List ℕ} (image : List ℕ) {t u : Tables} {sizes : Sizes} (b 
       room-same =
           omega (arith, e, ap length p, ap length q, noted-long (λ h. h .0) (room ends numbers) ends (omega arith), noted-long (λ h. h .1) (room ends numbers) numbers (omega arith))
 
-      abbrev answer : Verdict ℕ → Swept
-      answer v = record { answer = v; fetched = fetched; tables = u; ends = ends′; tokens = numbers′ }
-
-      answered : (v : Verdict ℕ) → v ≡ counted (room ends numbers) (length found) → answer v ≡ sweepImage book image t ends numbers
-      answered v z = rw (z, f, b .filled, p, q) (to-whole ∙ ap (sweptTo image t ends numbers) (sym (b .read)))
-
-      pub answer-many : r < hits → answer (refused 12 hits) ≡ sweepImage book image t ends numbers
-      answer-many l = answered (refused 12 hits) (rw h (to-many (room ends numbers) (length found) (omega (arith, room-same))))
-        where
-          to-many : (r all : ℕ) → r < all → refused 12 all ≡ counted r all
-          to-many r all l = cc (lt-ltb r all l)
-
-      pub answer-whole : hits ≤ r → answer (accepted hits) ≡ sweepImage book image t ends numbers
-      answer-whole l = answered (accepted hits) (rw h (to-all (room ends numbers) (length found) (omega (arith, room-same))))
-        where
-          to-all : (r all : ℕ) → all ≤ r → accepted all ≡ counted r all
-          to-all r all l = cc (le-ltb r all l)
+      pub answer-built : (v : Verdict ℕ) (g : ℕ) → v ≡ counted r hits → g ≡ fetched
+          → record { answer = v; fetched = g; tables = u; ends = ends′; tokens = numbers′ } ≡ sweepImage book image t ends numbers
+      answer-built v g z k =
+          rw (z, k, room-same, h, f, b .filled, p, q) (to-whole ∙ ap (sweptTo image t ends numbers) (sym (b .read)))

@@ -8,8 +8,8 @@ use borrow.Author.Tests.{eq-eqb, ne-eqb}
 use lib.ListN.{length, getD, set, length-set}
 use lib.Seq.{getD-set-same, getD-set-other}
 use Rattle.rules.specs.Laws.Tests.{split}
-use Rattle.trie.specs.Tables.{Tables}
-use Rattle.trie.specs.Walks.{along, childBy}
+use Rattle.tables.specs.Tables.{Tables}
+use Rattle.tables.specs.Walks.{along, childBy}
 use Rattle.trie.specs.Answers.{tables, childOf}
 use Rattle.trie.specs.declared.Child.{Child}
 use Rattle.trie.specs.declared.Child.the-variants.{At, Absent}

@@ -8,7 +8,7 @@ use borrow.Author.Tests.{ne-eqb}
 use lib.Dec.{eqb}
 use lib.ListN.{getD}
 use Rattle.rules.specs.Rules.{Tree}
-use Rattle.trie.specs.Walks.{childBy}
+use Rattle.tables.specs.Walks.{childBy}
 use Rattle.trie.specs.Answers.{tables, childOf}
 use Rattle.trie.specs.declared.Child.{Child}
 use Rattle.trie.specs.declared.Child.the-variants.{At, Absent}

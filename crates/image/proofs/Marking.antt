@@ -7,7 +7,7 @@ use mathlib.Core.List.{List, [], _∷_, _++_, map}
 use lib.Dec.{eqb}
 use lib.ListN.{length, getD}
 use Rattle.rules.specs.Rules.{Tree}
-use Rattle.trie.specs.Walks.{childBy}
+use Rattle.tables.specs.Walks.{childBy}
 use Rattle.trie.specs.Answers.{tables, childOf}
 use Rattle.trie.specs.declared.Child.{Child}
 use Rattle.trie.specs.declared.Child.the-variants.{At, Absent}

@@ -9,7 +9,7 @@ use lib.ListN.{length}
 use Rattle.rules.specs.Rules.{Tree}
 use Rattle.rules.specs.Tokens.{shortestOf}
 use Rattle.book.specs.Laws.Accepted.{accepted-fit, accepted-some}
-use Rattle.trie.specs.Tables.{Tables}
+use Rattle.tables.specs.Tables.{Tables}
 use Rattle.trie.specs.Answers.{tables}
 use Rattle.image.specs.declared.walk.Arrival.{Arrival}
 use Rattle.image.specs.Rounds.{reached, met}

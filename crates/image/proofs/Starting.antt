@@ -5,7 +5,7 @@ use mathlib.Core.List.{List, []}
 use mathlib.Core.Option.{some}
 use lib.ListN.{length, getD, replicate, length-replicate}
 use Rattle.book.specs.Laws.Accepted.{accepted-fit, accepted-some}
-use Rattle.trie.specs.Walks.{childBy}
+use Rattle.tables.specs.Walks.{childBy}
 use Rattle.trie.specs.Answers.{tables}
 use Rattle.image.specs.Rule5.{tokensOf}
 use Rattle.image.specs.Walk.{Walkable}

@@ -5,9 +5,9 @@ use mathlib.Core.List.{List, map}
 use lib.Dec.{ltb}
 use lib.ListN.{length, take}
 use Rattle.rules.specs.Tokens.{total}
-use Rattle.rules.specs.Sweep.{happens, bytesOf, places, hits}
+pub use Rattle.rules.specs.Sweep.{hitsOf, fetchesOf}
 use Rattle.book.specs.Book.{Verdict, accepted, refused, readBook, maxImage}
-use Rattle.trie.specs.Tables.{Tables, built, over, written, tooShort}
+use Rattle.tables.specs.Tables.{Tables, built, over, written, tooShort}
 
 -- What the sweep answers, the number of hits or a refusal; how many bytes it fetched, none where nothing is swept; and what the lent
 -- tables and hit buffers then hold.
@@ -25,13 +25,6 @@ tooLong image = ltb maxImage (length image)
 -- What the hit buffers hold: as many hits as the shorter one has entries.
 abbrev pub room : List ℕ → List ℕ → ℕ
 room ends tokens = min (length ends) (length tokens)
-
--- The hits of tokens in an image, and how many bytes are fetched to find them.
-abbrev pub hitsOf : List (List ℕ) → List ℕ → List (ℕ × ℕ)
-hitsOf tokens image = hits (happens tokens (length image) (bytesOf image))
-
-abbrev pub fetchesOf : List (List ℕ) → List ℕ → ℕ
-fetchesOf tokens image = length (places (happens tokens (length image) (bytesOf image)))
 
 -- Refusal 12: there are more hits than the shorter buffer holds.
 abbrev pub counted : ℕ → ℕ → Verdict ℕ

@@ -1,5 +1,6 @@
 -- The sweep of a whole image at hand.
 pub mod Image
+pub mod Examples
 pub mod Results
 pub mod Rounds
 pub mod Walk

@@ -5,7 +5,7 @@ use mathlib.Core.List.{List}
 use Rattle.rules.specs.Tokens.{total}
 use Rattle.book.specs.Book.{Verdict, accepted, refused, readBook, maxImage}
 use Rattle.book.specs.Answers.{refusalOf}
-use Rattle.trie.specs.Tables.{Tables, tooShort}
+use Rattle.tables.specs.Tables.{Tables, tooShort}
 use Rattle.image.specs.declared.Swept.{Swept}
 use Rattle.image.specs.declared.Swept.the-variants.{Whole, Unread, TooShort, TooLong, TooMany}
 

@@ -8,7 +8,7 @@ use lib.ListN.{length, getD}
 use Rattle.rules.specs.Lists.{any}
 use Rattle.rules.specs.Tokens.{ends, nodeShift, byteShift, shiftOf, shortestOf}
 use Rattle.book.specs.Book.{Reading, accepted, refused, readBook}
-use Rattle.trie.specs.Tables.{nodes}
+use Rattle.tables.specs.Tables.{nodes}
 use Rattle.image.specs.declared.walk.Stop.{Stop}
 use Rattle.image.specs.declared.walk.Stop.the-variants.{Byte, Nothing}
 

@@ -11,7 +11,7 @@ use Rattle.rules.specs.Tokens.{ends, ofTokens, shiftOf, shortestOf, longestOf}
 use Rattle.book.specs.Book.{readBook, accepted, maxImage, maxBody}
 use Rattle.book.specs.Laws.Accepted.{accepted-setting}
 use Rattle.trie.specs.Answers.{tables}
-use Rattle.trie.specs.Laws.Represents.{Represents}
+use Rattle.tables.specs.Laws.Represents.{Represents}
 use Rattle.image.specs.declared.spans.Spans.{Spans}
 use Rattle.image.specs.declared.skim.Skipped.{Skipped}
 use Rattle.image.specs.declared.turn.Outcome.{Outcome}

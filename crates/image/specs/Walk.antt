@@ -7,7 +7,7 @@ use mathlib.Core.Option.{Option, some, none}
 use lib.Dec.{ltb, eqb}
 use lib.ListN.{length, getD, set}
 use Rattle.rules.specs.Rules.{Tree}
-use Rattle.trie.specs.Walks.{childBy, ofTables}
+use Rattle.tables.specs.Walks.{childBy, ofTables}
 use Rattle.trie.specs.Answers.{tables}
 use Rattle.image.specs.declared.walk.Stop.{Stop}
 use Rattle.image.specs.declared.walk.Stop.the-variants.{Byte, Nothing}

@@ -7,16 +7,17 @@ mod spans;
 mod turn;
 mod walk;
 
-ghost use Prim.Native.Nat.{min};
 ghost use mathlib.Core.Path.{_≡_};
-ghost use Rattle.trie.specs.Tables.{Tables, shortestTable};
+ghost use Rattle.tables.specs.Tables.{Tables, shortestTable};
 ghost use Rattle.trie.specs.Answers.{tables};
-ghost use Rattle.image.specs.Image.{sweepImage};
+ghost use Rattle.image.specs.Image.{counted, sweepImage};
 ghost use Rattle.image.specs.Results.{sweptOf, fetchedOf, refusalFor};
 use book::Book;
 use book::Reading;
 use book::Refusal;
 use trie::Building;
+use trie::entries::least;
+use trie::entries::shortest;
 
 // How many hits there are, and how many bytes were fetched.
 pub struct Found {
@@ -33,12 +34,6 @@ pub enum Swept {
     TooMany(Found),
 }
 
-fn least(a: usize, b: usize) -> usize
-    ensures { λ r. ⌜ r ≡ min a b ⌝ }
-{
-    if a < b { a } else { b }
-}
-
 // Refusals 1 to 8 where the image is over its limit: nothing is built. `entries` is the shortest table's length.
 fn refuse(book: &[u8], entries: usize) -> Swept
     ensures { λ r. ⌜ (fetchedOf r ≡ 0) × ((t : Tables) → entries ≡ shortestTable t → sweptOf r ≡ refusalFor (now (book .entry)) t) ⌝ }
@@ -53,6 +48,16 @@ fn refuse(book: &[u8], entries: usize) -> Swept
             Swept::TooLong(Book::IMAGE)
         }
     }
+}
+
+// What was found, or refusal 12 where there is no room for all hits.
+fn answer(found: Found, room: usize) -> Swept
+    ensures { λ r. ⌜ (sweptOf r ≡ counted room (found .hits)) × (fetchedOf r ≡ found .fetched) ⌝ }
+{
+    if room < found.hits {
+        return Swept::TooMany(found);
+    }
+    Swept::Whole(found)
 }
 
 // Finds every token of the book in the image. Up to refusal 8 tables and buffers stay as they are; else the tables are built and the
@@ -82,14 +87,7 @@ pub fn sweep_image(
         ⌝ }
 {
     if Book::IMAGE < image.len() {
-        let entries = least(
-            parent.len(),
-            least(
-                label.len(),
-                least(token.len(), least(first.len(), next.len())),
-            ),
-        );
-        return refuse(book, entries);
+        return refuse(book, shortest(parent, label, token, first, next));
     }
     match trie::build(book, parent, label, token, first, next) {
         Building::Unread(why) => Swept::Unread(why),
@@ -107,11 +105,7 @@ pub fn sweep_image(
                 ends,
                 tokens,
             );
-            let room = least(ends.len(), tokens.len());
-            if room < found.hits {
-                return Swept::TooMany(found);
-            }
-            Swept::Whole(found)
+            answer(found, least(ends.len(), tokens.len()))
         }
     }
 }

@@ -4,7 +4,7 @@ ghost use mathlib.Core.Path.{_≡_};
 ghost use mathlib.Core.List.{[]};
 ghost use mathlib.Core.Option.{some};
 ghost use lib.ListN.{length};
-ghost use Rattle.trie.specs.Walks.{childBy};
+ghost use Rattle.tables.specs.Walks.{childBy};
 ghost use Rattle.trie.specs.Answers.{tables, childOf};
 ghost use Rattle.image.specs.Image.{room};
 ghost use Rattle.image.specs.Rounds.{reached, met};

@@ -5,12 +5,13 @@ use mathlib.Core.List.{List, [], _∷_, _++_}
 use mathlib.Core.Option.{some, none}
 use lib.ListN.{take, set, replicate}
 use Rattle.book.specs.Book.{accepted, refused, found, missing, unread}
+use Rattle.trie.specs.Answers.{tables}
 use Rattle.trie.specs.declared.chain.Way.the-variants.{Found, Ends}
 use Rattle.scan.specs.declared.Scan.{Scan}
 use Rattle.scan.specs.Start.{start}
 use Rattle.scan.specs.Calls.{fetch, found as hit, over, refused as denied, Stepped}
 use Rattle.probe.specs.declared.Told.{Told}
-use Rattle.probe.specs.Numbers.{told, readingOf, placeOf, sizesTold, testedOf, childOf, wayOf, stepOf}
+use Rattle.probe.specs.Numbers.{told, readingOf, placeOf, sizesTold, buildingOf, testedOf, childOf, wayOf, stepOf}
 use Rattle.probe.specs.States.{Lent, numbersOf, stateIn, startIn, stepIn}
 
 -- each answer as one list, its kind first
@@ -41,7 +42,7 @@ answers-told : answers
 unfolding answers
 answers-told = refl
 
--- 23 numbers, all different but for the byte that is due
+-- 23 numbers, all different
 state : List ℕ
 state =
     30 ∷ 20 ∷ 21 ∷ 25 ∷ 2 ∷ 3 ∷ 1 ∷ 7
@@ -50,6 +51,15 @@ state =
 there-and-back : numbersOf (stateIn state) ≡ state
 unfolding state
 there-and-back = refl
+
+none-due : numbersOf (stateIn (set state 6 0)) ≡ set state 6 0
+unfolding state
+none-due = refl
+
+-- What building left is told beside its answer.
+built-told : buildingOf (record { answer = refused 7 21; tables = tables (1 ∷ []) (2 ∷ []) (3 ∷ []) (4 ∷ []) (5 ∷ []) })
+    ≡ record { told = told 0 7 21 0 0; tables = tables (1 ∷ []) (2 ∷ []) (3 ∷ []) (4 ∷ []) (5 ∷ []) }
+built-told = refl
 
 -- a step that hands back the state it is given
 stay : Scan → Stepped

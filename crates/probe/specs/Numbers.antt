@@ -4,7 +4,7 @@ use Prim.Native.Nat.{ℕ}
 use mathlib.Core.List.{[], _∷_}
 use mathlib.Core.Option.{Option, some, none}
 use Rattle.book.specs.Book.{Verdict, accepted, refused, Totals, Place, found, missing, unread}
-use Rattle.trie.specs.Tables.{Tables, Sizes, Building}
+use Rattle.tables.specs.Tables.{Tables, Sizes, Building}
 use Rattle.trie.specs.declared.chain.Way.{Way}
 use Rattle.trie.specs.declared.chain.Way.the-variants.{Found, Ends}
 use Rattle.scan.specs.declared.Scan.{Scan}

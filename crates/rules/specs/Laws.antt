@@ -1,5 +1,6 @@
--- The laws of the rules: fetches and stretches are few and the sweep ends (Limit), the hits are the occurrences (Exact) and are known by
--- being them (Rising), and trees that agree on their nodes are swept alike (Alike). The others serve these.
+-- The laws of the rules: fetches and stretches are few and the sweep ends (Limit), what is remembered after a round is found stretch by
+-- stretch (Remember), the hits are the occurrences (Exact) and are known by being them (Rising), and trees that agree on their nodes are
+-- swept alike (Alike). The others serve these.
 pub mod Tests
 pub mod All
 pub mod Lengths

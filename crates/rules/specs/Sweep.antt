@@ -34,6 +34,13 @@ hits (hit e i ∷ es) = (e, i) ∷ hits es
 hits (shifted b ss ∷ es) = hits es
 hits (done ∷ es) = hits es
 
+-- The hits of tokens in an image, and how many bytes are fetched to find them.
+abbrev pub hitsOf : List (List ℕ) → List ℕ → List (ℕ × ℕ)
+hitsOf tokens image = hits (happens tokens (length image) (bytesOf image))
+
+abbrev pub fetchesOf : List (List ℕ) → List ℕ → ℕ
+fetchesOf tokens image = length (places (happens tokens (length image) (bytesOf image)))
+
 -- An occurrence: token i (from 0) stands in the image with its right edge at e (document 01: end).
 pub record Stands (tokens : List (List ℕ)) (image : List ℕ) (e i : ℕ) : Type 0 where
   pub numbered : i < length tokens
@@ -52,8 +59,8 @@ Ordered [] = Unit {0}
 Ordered (h ∷ hs) = ((e i : ℕ) → List·Memᴰ (e, i) hs → h .0 ≤ e) × Ordered hs
 
 -- a hit, n places further right
-abbrev pub moved : ℕ → ℕ × ℕ → ℕ × ℕ
-moved n h = (n + h .0, h .1)
+abbrev pub further : ℕ → ℕ × ℕ → ℕ × ℕ
+further n h = (n + h .0, h .1)
 
 -- The hits are exactly the occurrences, each one time, from left to right.
 pub record Occurrences (tokens : List (List ℕ)) (image : List ℕ) (found : List (ℕ × ℕ)) : Type 0 where

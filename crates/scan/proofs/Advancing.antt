@@ -7,7 +7,7 @@ use lib.Dec.{eqb}
 use lib.ListN.{getD}
 use Rattle.rules.specs.Rules.{place, stops, recall, look, next}
 use Rattle.rules.specs.Laws.Tests.{or-r}
-use Rattle.trie.specs.Tables.{Tables}
+use Rattle.tables.specs.Tables.{Tables}
 use Rattle.scan.specs.declared.Scan.{Scan}
 use Rattle.scan.specs.declared.stretches.Recalled.{Recalled}
 use Rattle.scan.specs.declared.stretches.Recalled.the-variants.{Byte, Nothing}

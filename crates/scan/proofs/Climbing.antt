@@ -8,9 +8,9 @@ use mathlib.Core.List.{List, [], _∷_}
 use lib.ListN.{length, getD, set}
 use lib.Seq.{sets, sets-eq}
 use Rattle.rules.specs.Laws.Tests.{split}
-use Rattle.trie.specs.Tables.{over}
-use Rattle.trie.specs.Walks.{ending, depth, lifted}
-use Rattle.trie.specs.Laws.Shape.{Falling, way-step}
+use Rattle.tables.specs.Tables.{over}
+use Rattle.tables.specs.Walks.{ending, depth, lifted}
+use Rattle.tables.specs.Laws.Shape.{Falling, way-step}
 use Rattle.scan.specs.Ways.{paths, Rises, Along, Run}
 
 -- What is left to write of a node's ending: that of `at`, from index n on.

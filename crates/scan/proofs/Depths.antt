@@ -8,10 +8,10 @@ use lib.Dec.{eqb}
 use lib.ListN.{length, getD}
 use Rattle.rules.specs.Rules.{Stretch}
 use Rattle.rules.specs.Laws.Tests.{decide}
-use Rattle.trie.specs.Tables.{Tables}
-use Rattle.trie.specs.Walks.{climb, depth}
-use Rattle.trie.specs.Laws.Shape.{Falling, way-step}
-use Rattle.trie.specs.Laws.Unbroken.{unbroken}
+use Rattle.tables.specs.Tables.{Tables}
+use Rattle.tables.specs.Walks.{climb, depth}
+use Rattle.tables.specs.Laws.Shape.{Falling, way-step}
+use Rattle.tables.specs.Laws.Unbroken.{unbroken}
 use Rattle.scan.specs.declared.Scan.{Scan}
 use Rattle.scan.specs.State.{rising}
 use Rattle.trie.specs.Answers.{tables}

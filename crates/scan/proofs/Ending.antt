@@ -9,7 +9,7 @@ use Rattle.rules.specs.Rules.{Stretch, leftOver, cut, kept}
 use Rattle.rules.specs.Laws.All.{All, filter-append}
 use Rattle.rules.specs.Laws.Remember.{Lies, staying, new-lies}
 use Rattle.rules.specs.Laws.Limit.Span.{cut-ge}
-use Rattle.trie.specs.Walks.{depth, lifted}
+use Rattle.tables.specs.Walks.{depth, lifted}
 use Rattle.scan.specs.declared.Stretch.{Stretch as Slot}
 use Rattle.scan.specs.declared.stretches.Filled.{Filled}
 use Rattle.scan.specs.State.{slotOf, laid, maxStretches}

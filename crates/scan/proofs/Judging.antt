@@ -5,8 +5,8 @@ use mathlib.Core.Path.{_≡_, refl, ap, sym, subst, _∙_}
 use mathlib.Core.Bool.{Bool, true, false}
 use mathlib.Core.Option.{some, none}
 use Rattle.rules.specs.Rules.{Config, Step, Next, finished, wants, goes, take, next}
-use Rattle.trie.specs.Tables.{Tables}
-use Rattle.trie.specs.Broken.{broken}
+use Rattle.tables.specs.Tables.{Tables}
+use Rattle.tables.specs.Broken.{broken}
 use Rattle.trie.specs.Answers.{testedOf}
 use Rattle.trie.specs.declared.Tested.{Tested}
 use Rattle.trie.specs.declared.Tested.the-variants.{Sound, Breaks}

@@ -14,8 +14,8 @@ use Rattle.rules.specs.Laws.Tests.{split, least-ge, least-upto}
 use Rattle.rules.specs.Tokens.{fromRight, agrees, byteShift, shiftOf}
 use Rattle.agree.specs.Tests.{nodeTest, byteTest, leastOf}
 use Rattle.agree.specs.Laws.Least.{least-none, least-token}
-use Rattle.trie.specs.Tables.{Tables, over}
-use Rattle.trie.specs.Walks.{ending, depth, words}
+use Rattle.tables.specs.Tables.{Tables, over}
+use Rattle.tables.specs.Walks.{ending, depth, words}
 use Rattle.trie.specs.Answers.{tables}
 use Rattle.scan.specs.Ways.{paths}
 use Rattle.scan.specs.Shifts.{Bare}

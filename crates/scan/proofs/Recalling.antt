@@ -14,8 +14,8 @@ use Rattle.rules.specs.Lists.{any}
 use Rattle.rules.specs.Rules.{Stretch}
 use Rattle.rules.specs.Laws.Tests.{passed}
 use Rattle.rules.specs.Laws.All.{All}
-use Rattle.trie.specs.Walks.{depth, lifted}
-use Rattle.trie.specs.Laws.Shape.{way-lifts}
+use Rattle.tables.specs.Walks.{depth, lifted}
+use Rattle.tables.specs.Laws.Shape.{way-lifts}
 use Rattle.scan.specs.declared.Stretch.{Stretch as Slot}
 use Rattle.scan.specs.declared.stretches.Holder.{Holder}
 use Rattle.scan.specs.declared.stretches.Holder.the-variants.{In, Nowhere}
@@ -130,18 +130,18 @@ module _ (parent label : List ℕ) (ms : List (Stretch ℕ)) (at : ℕ) where
           let p = passed (leb (s .left) at ∷ ltb at (s .right) ∷ []) (holds .1) in
           (leb-true (s .left) at (p 0), ltb-true at (s .right) (p 1))
 
-      module _ (v : ℕ) (up : v ≡ lifted (paths parent []) (at - s .left) (s .node)) where
-        same : v ≡ lifted (paths parent label) (at - s .left) (s .node)
-        same = up ∙ lifted-alike (paths parent []) (paths parent label) refl (at - s .left) (s .node)
+      same : (n v : ℕ) → v ≡ lifted (paths parent []) n (s .node) → v ≡ lifted (paths parent label) n (s .node)
+      same n v up = up ∙ lifted-alike (paths parent []) (paths parent label) refl n (s .node)
 
-        pub recalled-below : v < length label
-        recalled-below =
-            let b = way-lifts (paths parent label) (r .count) (falls (r .rises) label) (at - s .left) (s .node) (holds .0 .0) .0 in
-            omega (arith, same, b, r .labels)
+      -- However many steps a climb from the stretch's node goes, its end has a label.
+      pub lifted-below : (n v : ℕ) → v ≡ lifted (paths parent []) n (s .node) → v < length label
+      lifted-below n v up =
+          let b = way-lifts (paths parent label) (r .count) (falls (r .rises) label) n (s .node) (holds .0 .0) .0 in
+          omega (arith, same n v up, b, r .labels)
 
-        pub recalled : some (getD label v 0) ≡ recallBy parent label ms at
-        recalled =
-            let p = held-inside in
-            let far : at - s .left ≡ depth (paths parent label) (s .node) - 1 - (s .right - 1 - at) = omega (arith, holds .0 .1) in
-            ap (λ v. some (getD label v 0)) (same ∙ ap (λ n. lifted (paths parent label) n (s .node)) far)
-            ∙ ap byteIn (sym (ap holderOf e) ∙ is) ∙ recalls
+      pub recalled : (v : ℕ) → v ≡ lifted (paths parent []) (at - s .left) (s .node) → some (getD label v 0) ≡ recallBy parent label ms at
+      recalled v up =
+          let p = held-inside in
+          let far : at - s .left ≡ depth (paths parent label) (s .node) - 1 - (s .right - 1 - at) = omega (arith, holds .0 .1) in
+          ap (λ v. some (getD label v 0)) (same (at - s .left) v up ∙ ap (λ n. lifted (paths parent label) n (s .node)) far)
+          ∙ ap byteIn (sym (ap holderOf e) ∙ is) ∙ recalls

@@ -7,7 +7,7 @@ use mathlib.Core.Option.{none}
 use Rattle.book.specs.Book.{maxBody}
 use Rattle.rules.specs.Rules.{Config, Step, Next, finished, wants, goes, endRound, take, next}
 use Rattle.rules.specs.Laws.Limit.Ends.{stepsLeft}
-use Rattle.trie.specs.Tables.{Tables}
+use Rattle.tables.specs.Tables.{Tables}
 use Rattle.scan.specs.declared.Scan.{Scan}
 use Rattle.scan.specs.declared.Answer.the-variants.{Fetch, Hit, Done}
 use Rattle.scan.specs.declared.Stepped.{Stepped as Result}

@@ -11,8 +11,8 @@ use Rattle.rules.specs.Tokens.{shiftOf}
 use Rattle.rules.specs.Laws.All.{All}
 use Rattle.rules.specs.Laws.Remember.{Lies}
 use Rattle.rules.specs.Laws.Exact.Shift.{shift-upto}
-use Rattle.trie.specs.Tables.{Tables}
-use Rattle.trie.specs.Walks.{childBy, ending, words}
+use Rattle.tables.specs.Tables.{Tables}
+use Rattle.tables.specs.Walks.{childBy, ending, words}
 use Rattle.trie.specs.Answers.{tables, childOf}
 use Rattle.trie.specs.declared.Child.{Child}
 use Rattle.trie.specs.declared.Child.the-variants.{At, Absent}

@@ -7,8 +7,8 @@ use borrow.Author.Tests.{le-leb, lt-leb, leb-true, ltb-true, ltb-false}
 use lib.Dec.{leb, ltb, eqb}
 use Rattle.rules.specs.Laws.Tests.{and-l, and-r}
 use Rattle.rules.specs.Rules.{Stretch, kept}
-use Rattle.trie.specs.Tables.{Tables}
-use Rattle.trie.specs.Walks.{depth}
+use Rattle.tables.specs.Tables.{Tables}
+use Rattle.tables.specs.Walks.{depth}
 use Rattle.trie.specs.Answers.{tables}
 use Rattle.scan.specs.declared.Scan.{Scan}
 use Rattle.scan.specs.State.{used, countOk, imageOk, shortestOk, nodeOk, boundaryOk, suppliedOk, stretchOk, stretchesOk, dueOk, inRange}

@@ -5,8 +5,8 @@ use mathlib.Core.List.{List, [], _∷_}
 use mathlib.Core.Option.{Option, some, none}
 use Rattle.rules.specs.Rules.{Config, Event, fetched, recalled, hit, shifted, done, finished, wants, goes, take, next}
 use Rattle.book.specs.Book.{maxBody}
-use Rattle.trie.specs.Tables.{Tables}
-use Rattle.trie.specs.Broken.{broken}
+use Rattle.tables.specs.Tables.{Tables}
+use Rattle.tables.specs.Broken.{broken}
 use Rattle.scan.specs.declared.Scan.{Scan}
 use Rattle.scan.specs.State.{laid, configOf, treeOf, maxSupplied, maxStretches, inRange}
 

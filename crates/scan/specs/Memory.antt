@@ -9,7 +9,7 @@ use lib.ListN.{length, set}
 use Rattle.rules.specs.Lists.{filter}
 use Rattle.rules.specs.Rules.{Stretch, kept, recall, ended}
 use Rattle.rules.specs.Laws.All.{All}
-use Rattle.trie.specs.Walks.{depth, ofTables}
+use Rattle.tables.specs.Walks.{depth, ofTables}
 use Rattle.scan.specs.declared.Stretch.{Stretch as Slot}
 use Rattle.scan.specs.declared.stretches.Filled.{Filled}
 use Rattle.scan.specs.declared.stretches.Holder.{Holder}

@@ -3,7 +3,7 @@ use Prim.Native.Nat.{ℕ}
 use mathlib.Core.Path.{_≡_}
 use mathlib.Core.List.{List}
 use mathlib.Core.Option.{none}
-use Rattle.trie.specs.Broken.{broken}
+use Rattle.tables.specs.Broken.{broken}
 use Rattle.trie.specs.Answers.{tables}
 
 -- Parents and first children of tables that pass refusal 9.

@@ -5,8 +5,8 @@ use mathlib.Core.List.{List, [], _∷_}
 use lib.Dec.{leb, ltb, eqb}
 use Rattle.rules.specs.Rules.{Tree, Stretch, Config, Next, finished, wants, goes, kept, next}
 use Rattle.book.specs.Book.{maxBodies, maxBody, maxImage}
-use Rattle.trie.specs.Tables.{Tables}
-use Rattle.trie.specs.Walks.{ofTables, depth}
+use Rattle.tables.specs.Tables.{Tables}
+use Rattle.tables.specs.Walks.{ofTables, depth}
 use Rattle.scan.specs.declared.Scan.{Scan}
 use Rattle.scan.specs.declared.Stretch.{Stretch as Slot}
 

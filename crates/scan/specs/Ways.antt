@@ -5,8 +5,8 @@ use mathlib.Core.List.{List, []}
 use lib.ListN.{length, getD}
 use lib.Seq.{sets}
 use Rattle.book.specs.Book.{maxBody}
-use Rattle.trie.specs.Tables.{Tables}
-use Rattle.trie.specs.Walks.{ending, depth, lifted}
+use Rattle.tables.specs.Tables.{Tables}
+use Rattle.tables.specs.Walks.{ending, depth, lifted}
 use Rattle.trie.specs.Answers.{tables}
 
 -- as far as endings go

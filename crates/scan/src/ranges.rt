@@ -15,7 +15,7 @@ ghost use lib.Dec.{leb, ltb, eqb};
 ghost use lib.ListN.{length};
 ghost use Rattle.rules.specs.Lists.{any};
 ghost use Rattle.book.specs.Book.{maxImage};
-ghost use Rattle.trie.specs.Walks.{depth};
+ghost use Rattle.tables.specs.Walks.{depth};
 ghost use Rattle.trie.specs.Answers.{tables};
 ghost use Rattle.scan.specs.State.{stretchOf, used, farthest, stretchOk, stretchesOk, dueOk, inRange};
 ghost use Rattle.scan.specs.Ways.{paths, Rises, Climbs};

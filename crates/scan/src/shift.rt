@@ -8,7 +8,7 @@ ghost use lib.ListN.{length, getD};
 ghost use Rattle.rules.specs.Lists.{least};
 ghost use Rattle.rules.specs.Tokens.{shiftOf};
 ghost use Rattle.agree.specs.Tests.{nodeTest, byteTest, leastOf};
-ghost use Rattle.trie.specs.Walks.{ending, words};
+ghost use Rattle.tables.specs.Walks.{ending, words};
 ghost use Rattle.trie.specs.Answers.{tables};
 ghost use Rattle.scan.specs.Ways.{paths, Readable, Spells};
 ghost use Rattle.scan.specs.Shifts.{closingOf, Bare};

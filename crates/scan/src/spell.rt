@@ -4,8 +4,8 @@ ghost use Prim.Native.Nat.{_+_, _-_, _≤_, _<_};
 ghost use mathlib.Core.Path.{_≡_};
 ghost use mathlib.Core.List.{[]};
 ghost use lib.ListN.{length};
-ghost use Rattle.trie.specs.Tables.{over};
-ghost use Rattle.trie.specs.Walks.{ending, depth, lifted};
+ghost use Rattle.tables.specs.Tables.{over};
+ghost use Rattle.tables.specs.Walks.{ending, depth, lifted};
 ghost use Rattle.scan.specs.Ways.{paths, Climbs, Spells, Along, Run};
 use trie::entries::wide;
 

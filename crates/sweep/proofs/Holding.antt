@@ -7,7 +7,7 @@ use borrow.Author.Tests.{lt-ltb, le-ltb}
 use lib.Dec.{ltb}
 use lib.ListN.{length, getD, take, drop, length-map, length-take, length-drop, length-append, List·getD-append}
 use lib.Seq.{take-all, take-at}
-use Rattle.rules.specs.Sweep.{Ordered, moved}
+use Rattle.rules.specs.Sweep.{Ordered, further}
 use Rattle.rules.specs.Laws.Exact.{happens-exact}
 use Rattle.book.specs.Book.{accepted}
 use Rattle.book.specs.Laws.Accepted.{accepted-setting, accepted-longest}
@@ -15,21 +15,21 @@ use Rattle.image.specs.declared.Swept.{Swept}
 use Rattle.image.specs.Image.{room, hitsOf, counted, noted}
 use Rattle.image.specs.Results.{sweptOf}
 use Rattle.image.specs.Rule5.{tokensOf}
-use Rattle.sweep.specs.Parts.{maxHits, maxPart, partFrom, partTo, between, past, fromAt, toAt, partAt}
+use Rattle.listing.specs.Parts.{maxHits, maxPart, partFrom, partTo, between, past, fromAt, toAt, partAt}
 use Rattle.sweep.specs.Program.{Known, Answered, pairs, held, Listing}
-use Rattle.sweep.specs.Laws.Whole.{filter-all}
-use Rattle.sweep.specs.Laws.Fits.{part-fits}
+use Rattle.listing.specs.Laws.Whole.{filter-all}
+use Rattle.listing.specs.Laws.Fits.{part-fits}
 
 -- The hits that end past `at` are all from the first on that does.
 passed-past : (from at : ℕ) (l : List (ℕ × ℕ)) (n : ℕ) → Ordered l → n ≤ length l
     → ((i : ℕ) → i < n → from + getD (map (λ h. h .0) l) i 0 ≤ at)
     → (n < length l → at < from + getD (map (λ h. h .0) l) n 0)
-    → past at (map (moved from) l) ≡ map (moved from) (drop n l)
+    → past at (map (further from) l) ≡ map (further from) (drop n l)
 passed-past from at [] zero o h f g = refl
 passed-past from at [] (suc n) o h f g = refl
 passed-past from at (a ∷ l) zero o h f g =
-    filter-all (λ h. ltb at (h .0)) (map (moved from) (a ∷ l))
-    (λ x m. let r = Memᴰ·of-map (moved from) (a ∷ l) m in lt-ltb at (x .0) (omega (arith, g (omega arith), ap (λ h. h .0) (r .2), later (r .0) (r .1))))
+    filter-all (λ h. ltb at (h .0)) (map (further from) (a ∷ l))
+    (λ x m. let r = Memᴰ·of-map (further from) (a ∷ l) m in lt-ltb at (x .0) (omega (arith, g (omega arith), ap (λ h. h .0) (r .2), later (r .0) (r .1))))
   where
     later : (b : ℕ × ℕ) → List·Memᴰ b (a ∷ l) → a .0 ≤ b .0
     later b (List·Memᴰ·head e) = omega (arith, ap (λ h. h .0) e)
@@ -124,7 +124,7 @@ module _ (book image : List ℕ) (longest at : ℕ) (known : Known book longest)
           (happens-exact ts (accepted-setting book ts (known .read)) (partAt ts image at) .occurrences .ordered) (omega (arith, hits-is))
           (λ i l. omega (arith, goes-on .2, from-is, p i l, at-end i (omega (arith, hits-is))))
           (λ l. omega (arith, goes-on .2, from-is, q (omega (arith, hits-is)), at-end before l))
-          ∙ ap (λ l. map (moved (fromAt ts image at)) (drop before l)) (sym holds)
-          ∙ ap (λ n. map (moved (fromAt ts image at)) (drop before (held n ends′ numbers′))) (sym hits-is)
-          ∙ ap (λ n. map (moved n) (drop before (held hits ends′ numbers′))) (sym from-is);
+          ∙ ap (λ l. map (further (fromAt ts image at)) (drop before l)) (sym holds)
+          ∙ ap (λ n. map (further (fromAt ts image at)) (drop before (held n ends′ numbers′))) (sym hits-is)
+          ∙ ap (λ n. map (further n) (drop before (held hits ends′ numbers′))) (sym from-is);
     }

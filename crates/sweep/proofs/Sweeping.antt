@@ -8,7 +8,7 @@ use lib.ListN.{length}
 use Rattle.rules.specs.Tokens.{total, longestOf}
 use Rattle.book.specs.Book.{accepted, Totals, summary, readBook, maxImage}
 use Rattle.book.specs.Laws.Accepted.{accepted-fit}
-use Rattle.trie.specs.Tables.{Tables, built, written, shortestTable}
+use Rattle.tables.specs.Tables.{Tables, built, written, shortestTable}
 use Rattle.trie.specs.Laws.Answer.{summed}
 use Rattle.image.specs.declared.Swept.{Swept as Answer}
 use Rattle.image.specs.Image.{room, hitsOf, fetchesOf, counted, noted, sweepImage}

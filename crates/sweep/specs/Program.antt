@@ -4,14 +4,14 @@ use mathlib.Core.Path.{_≡_}
 use mathlib.Core.List.{List, [], _∷_, map}
 use lib.ListN.{length, take, drop}
 use Rattle.rules.specs.Tokens.{longestOf}
-use Rattle.rules.specs.Sweep.{moved}
+use Rattle.rules.specs.Sweep.{further}
 use Rattle.book.specs.Book.{readBook, accepted}
 use Rattle.image.specs.declared.Swept.{Swept}
 use Rattle.image.specs.Image.{room, hitsOf, fetchesOf, counted, noted}
 use Rattle.image.specs.Results.{sweptOf, fetchedOf}
 use Rattle.image.specs.Rule5.{tokensOf}
 use Rattle.sweep.specs.declared.parts.Part.{Part}
-use Rattle.sweep.specs.Parts.{fromAt, toAt, listedAt}
+use Rattle.listing.specs.Parts.{fromAt, toAt, listedAt}
 
 -- The book is accepted; and its longest token is so long.
 abbrev pub Accepted : List ℕ → Type 0
@@ -43,4 +43,4 @@ pub record Listing (tokens : List (List ℕ)) (image : List ℕ) (at : ℕ) (p :
   pub begins : p .from ≡ fromAt tokens image at
   pub ends-at : p .to ≡ toAt tokens image at
   pub inside : (p .before ≤ p .hits) × (p .hits ≤ length ends) × (p .hits ≤ length numbers)
-  pub lists : listedAt tokens image at ≡ map (moved (p .from)) (drop (p .before) (held (p .hits) ends numbers))
+  pub lists : listedAt tokens image at ≡ map (further (p .from)) (drop (p .before) (held (p .hits) ends numbers))

@@ -74,18 +74,23 @@ impl Pen {
         self.text(out, &digits[..k])
     }
 
-    // A line of a word and two numbers.
-    fn line(self, out: &mut [u8], word: &[u8], a: usize, b: usize) -> Pen {
-        let one = self.text(out, word).number(out, a);
-        one.text(out, b" ").number(out, b).text(out, b"\n")
+    // A word and a number.
+    fn pair(self, out: &mut [u8], word: &[u8], n: usize) -> Pen {
+        self.text(out, word).number(out, n)
+    }
+
+    // A line of two words, each with a number.
+    fn line(self, out: &mut [u8], one: &[u8], a: usize, two: &[u8], b: usize) -> Pen {
+        self.pair(out, one, a).pair(out, two, b).text(out, b"\n")
     }
 
     // The first line: the image's length and the number of tokens.
     pub fn head(self, out: &mut [u8], image: usize, tokens: usize) -> Pen {
-        let one = self.text(out, b"image ").number(out, image);
-        one.text(out, b" tokens ")
-            .number(out, tokens)
-            .text(out, b"\n")
+        self.line(out, b"image ", image, b" tokens ", tokens)
+    }
+
+    fn hit(self, out: &mut [u8], end: usize, token: usize) -> Pen {
+        self.line(out, b"hit ", end, b" ", token)
     }
 
     // A line for each hit that the buffers hold from entry `first` up to `last`, its end moved by `from`.
@@ -104,7 +109,7 @@ impl Pen {
         let mut i = first;
         while i < last {
             let end = from + entry(ends, i);
-            pen = pen.line(out, b"hit ", end, entry(tokens, i));
+            pen = pen.hit(out, end, entry(tokens, i));
             i += 1;
         }
         pen
@@ -112,7 +117,7 @@ impl Pen {
 
     // The last line: how many hits there were and how many bytes were fetched.
     pub fn end(self, out: &mut [u8], hits: usize, fetched: usize) {
-        self.line(out, b"end ", hits, fetched).finish(out)
+        self.line(out, b"end ", hits, b" ", fetched).finish(out)
     }
 
     // Writes what is left, and says so if not all could be written.
@@ -128,7 +133,7 @@ impl Pen {
 pub fn refused(number: usize, value: usize) {
     let mut out = [0u8; ROOM];
     Pen::new()
-        .line(&mut out, b"refused ", number, value)
+        .line(&mut out, b"refused ", number, b" ", value)
         .finish(&out)
 }
 

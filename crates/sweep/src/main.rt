@@ -6,12 +6,12 @@ ghost use lib.ListN.{length, take};
 ghost use Rattle.io.specs.Counts.{Counts};
 ghost use Rattle.book.specs.Book.{readBook, summary};
 ghost use Rattle.book.specs.Answers.{verdictOf};
-ghost use Rattle.sweep.specs.Prefix.{needed};
+ghost use Rattle.book.specs.Laws.Prefix.{needed};
 ghost use Rattle.sweep.specs.Program.{Known};
 
 mod lines;
+mod own;
 mod parts;
-mod tables;
 
 use book::Book;
 use book::Reading;
@@ -46,7 +46,7 @@ fn sweep(book: &[u8], image: &[u8], known: usize, longest: usize)
 {
     let mut ends = [0u32; HITS];
     let mut tokens = [0u32; HITS];
-    let answer = tables::sweep(book, image, &mut ends, &mut tokens);
+    let answer = own::sweep(book, image, &mut ends, &mut tokens);
     match answer {
         Swept::Whole(found) => lines::whole(image.len(), known, found, &ends, &tokens),
         Swept::TooMany(found) => {

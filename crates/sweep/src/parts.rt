@@ -6,12 +6,12 @@ ghost use lib.ListN.{length, getD};
 ghost use Rattle.book.specs.Book.{accepted};
 ghost use Rattle.image.specs.Rule5.{tokensOf};
 ghost use Rattle.image.specs.Results.{sweptOf};
-ghost use Rattle.sweep.specs.Parts.{maxHits, partFrom, partTo};
+ghost use Rattle.listing.specs.Parts.{maxHits, partFrom, partTo};
 ghost use Rattle.sweep.specs.Program.{Known, Listing};
 use crate::lines::Pen;
 use crate::lines::ROOM;
 use crate::lines::wide;
-use crate::tables;
+use crate::own;
 use image::Found;
 use image::Swept;
 
@@ -91,7 +91,7 @@ fn sweep(
 {
     let from = begin(longest, at);
     let to = end(image.len(), from);
-    let hits = number(tables::sweep(book, &image[from..to], ends, tokens));
+    let hits = number(own::sweep(book, &image[from..to], ends, tokens));
     let before = passed(ends, hits, at - from);
     Part {
         from,

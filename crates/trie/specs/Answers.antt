@@ -7,8 +7,8 @@ use lib.Dec.{leb}
 use lib.ListN.{getD}
 use Rattle.book.specs.Book.{Verdict, accepted, refused}
 use Rattle.book.specs.Answers.{refusalOf}
-use Rattle.trie.specs.Tables.{Tables, Sizes}
-use Rattle.trie.specs.Broken.{links, maxNumber}
+use Rattle.tables.specs.Tables.{Tables, Sizes}
+use Rattle.tables.specs.Broken.{links, maxNumber}
 use Rattle.trie.specs.declared.Child.{Child}
 use Rattle.trie.specs.declared.Child.the-variants.{At, Absent}
 use Rattle.trie.specs.declared.Tested.{Tested}

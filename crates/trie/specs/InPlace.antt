@@ -4,9 +4,9 @@ use mathlib.Core.Bool.{true, false}
 use mathlib.Core.List.{List}
 use lib.Dec.{eqb}
 use lib.ListN.{length, take, set}
-use Rattle.trie.specs.Tables.{Tables, nodes, built, written}
-use Rattle.trie.specs.Laws.Growth.{inserted}
-use Rattle.trie.specs.Laws.Shape.{Shape}
+use Rattle.tables.specs.Tables.{Tables, nodes, built, written}
+use Rattle.tables.specs.Laws.Growth.{inserted}
+use Rattle.tables.specs.Laws.Shape.{Shape}
 
 -- all five have n entries at least
 pub record Room (t : Tables) (n : ℕ) : Type 0 where

@@ -1,7 +1,7 @@
 // The walk along the chain of a node's children, to the first whose label is the byte.
 ghost use mathlib.Core.Path.{_≡_};
 ghost use mathlib.Core.List.{[]};
-ghost use Rattle.trie.specs.Walks.{childBy};
+ghost use Rattle.tables.specs.Walks.{childBy};
 ghost use Rattle.trie.specs.Answers.{tables, childOf};
 ghost use Rattle.trie.specs.Chain.{walked};
 use crate::Child;

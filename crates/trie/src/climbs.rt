@@ -3,9 +3,9 @@ ghost use mathlib.Core.Path.{_≡_};
 ghost use mathlib.Core.List.{[]};
 ghost use Prim.Native.Nat.{_+_, _-_, _<_};
 ghost use lib.ListN.{length};
-ghost use Rattle.trie.specs.Walks.{depth};
+ghost use Rattle.tables.specs.Walks.{depth};
 ghost use Rattle.trie.specs.Answers.{tables};
-ghost use Rattle.trie.specs.Laws.Shape.{Falling, up};
+ghost use Rattle.tables.specs.Laws.Shape.{Falling, up};
 use crate::entries::wide;
 
 // The depth of `node`, a step a parent.

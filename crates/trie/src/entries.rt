@@ -2,7 +2,7 @@
 ghost use mathlib.Core.Path.{_≡_};
 ghost use Prim.Native.Nat.{min};
 ghost use lib.ListN.{getD};
-ghost use Rattle.trie.specs.Tables.{shortestTable};
+ghost use Rattle.tables.specs.Tables.{shortestTable};
 ghost use Rattle.trie.specs.Answers.{tables};
 
 // A cast of an entry in a function of its own asks nothing of who reads it.

@@ -10,7 +10,7 @@ mod insert;
 
 pub use breaks::first_break;
 ghost use mathlib.Core.Path.{_≡_};
-ghost use Rattle.trie.specs.Tables.{build};
+ghost use Rattle.tables.specs.Tables.{build};
 ghost use Rattle.trie.specs.Answers.{tables, answerOf};
 use book::Reading;
 use book::Refusal;

@@ -3,7 +3,7 @@ use Prim.Native.Nat.{ℕ}
 use mathlib.Core.List.{List}
 use lib.ListN.{getD}
 use Rattle.book.specs.Book.{Place, found, missing, unread, placeIn, readBook}
-use Rattle.trie.specs.Tables.{Tables}
+use Rattle.tables.specs.Tables.{Tables}
 use Rattle.view.specs.declared.Body.{Body}
 use Rattle.view.specs.declared.Node.{Node}
 

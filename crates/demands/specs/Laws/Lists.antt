@@ -8,7 +8,7 @@ use mathlib.Core.List.{List, [], _∷_, _++_}
 use lib.ListN.{length, getD, drop, length-append}
 use Rattle.rules.specs.Rules.{Config}
 use Rattle.rules.specs.Sweep.{limit}
-use Rattle.trie.specs.Tables.{Tables}
+use Rattle.tables.specs.Tables.{Tables}
 use Rattle.scan.specs.State.{used}
 use Rattle.scan.specs.Calls.{Answer, refused, Stepped, carryOn, supply}
 use Rattle.scan.specs.Answers.{isRefused, isFetch, first, later}

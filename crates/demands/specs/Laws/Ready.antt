@@ -12,9 +12,9 @@ use Rattle.rules.specs.Laws.Tests.{decide}
 use Rattle.rules.specs.Laws.Alike.{trace-same}
 use Rattle.book.specs.Book.{readBook, accepted, refused, maxImage}
 use Rattle.book.specs.Laws.Accepted.{accepted-fit, accepted-shortest, accepted-setting, accepted-longest}
-use Rattle.trie.specs.Tables.{Tables, nodes, built, Lent}
-use Rattle.trie.specs.Walks.{ending, ofTables}
-use Rattle.trie.specs.Laws.Represents.{built-represents}
+use Rattle.tables.specs.Tables.{Tables, nodes, built, Lent}
+use Rattle.tables.specs.Walks.{ending, ofTables}
+use Rattle.tables.specs.Laws.Represents.{built-represents}
 use Rattle.scan.specs.declared.Scan.{Scan}
 use Rattle.scan.specs.Start.{started, start, tooLong}
 use Rattle.scan.specs.Answers.{answers}

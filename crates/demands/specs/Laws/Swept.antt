@@ -9,8 +9,8 @@ use lib.Seq.{take-nil}
 use Rattle.rules.specs.Rules.{Config, Event, fetched, recalled, hit, shifted, done, wants, next}
 use Rattle.rules.specs.Sweep.{bytesOf, places, hits}
 use Rattle.rules.specs.Laws.Limit.Ends.{Whole}
-use Rattle.trie.specs.Tables.{Tables}
-use Rattle.trie.specs.Walks.{ofTables}
+use Rattle.tables.specs.Tables.{Tables}
+use Rattle.tables.specs.Walks.{ofTables}
 use Rattle.scan.specs.Calls.{Answer, fetch, found, over, refused, Stepped, carryOn, supply}
 use Rattle.scan.specs.Answers.{answers, placesIn, hitsIn}
 use Rattle.scan.specs.Laws.Walk.{Given, Sat}

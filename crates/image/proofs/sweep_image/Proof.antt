@@ -5,10 +5,10 @@ use borrow.Author.Needs.{needs}
 use lib.ListN.{length}
 use Rattle.book.specs.Book.{maxImage}
 use Rattle.book.specs.Answers.{refusalOf}
-use Rattle.trie.specs.Tables.{Tables, Sizes}
+use Rattle.tables.specs.Tables.{Tables, Sizes}
 use Rattle.trie.specs.Answers.{tables, answerOf}
 use Rattle.image.specs.Results.{sweptOf, fetchedOf}
-use Rattle.image.proofs.Answering.{Built, answer-long, answer-refused, is-built, built-given, answer-many, answer-whole}
+use Rattle.image.proofs.Answering.{Built, answer-long, answer-refused, is-built, built-given, answer-built}
 use Rattle.image.proofs.sweep_image.Statement.{statement}
 use Rattle.image.proofs.sweep_image.Tie as tie
 
@@ -39,16 +39,10 @@ stand c = let d = make c in
     (ap (λ r. record { answer = answerOf r; tables = left d }) (sym (c .sizes .given .1)) ∙ d .build .ensures)
 
 returns : tie.Need-returns
-returns c = let s = c .before .before .before .before .before .before .before .before .before .before .before .before .before .before .before in
+returns c = let s = c .before .before .before .before .before .before .before .before .before .before .before .before .before .before .before .before .before in
     let a = s .args in
-    answer-long (a .book .now) (a .image .now) (lent s) (a .ends .now) (a .tokens .now) (c .before .before .before .before .before .if1 .taken)
-    (sweptOf (c .refuse .result)) (fetchedOf (c .refuse .result))
-    (c .refuse .ensures .1 (lent s)
-    (c .before .least4 .ensures
-    ∙ ap (min (length (a .parent .now))) (c .before .before .least3 .ensures
-    ∙ ap (min (length (a .label .now))) (c .before .before .before .least2 .ensures
-    ∙ ap (min (length (a .token .now))) (c .before .before .before .before .least .ensures)))))
-    (c .refuse .ensures .0)
+    answer-long (a .book .now) (a .image .now) (lent s) (a .ends .now) (a .tokens .now) (c .before .before .before .before .before .before .before .if1 .taken)
+    (sweptOf (c .refuse .result)) (fetchedOf (c .refuse .result)) (c .refuse .ensures .1 (lent s) (c .before .shortest .ensures)) (c .refuse .ensures .0)
 
 sweep-requires : tie.Need-sweep-requires
 sweep-requires c κs = let z = c .before .before .before .before .before .before .before in
@@ -56,35 +50,27 @@ sweep-requires c κs = let z = c .before .before .before .before .before .before
     built-given (start d .args .image .now) (stand z) (within d)
 
 returns-2 : tie.Need-returns-2
-returns-2 c = let w = c .before .before .before .before .before .before .before in
-    let z = w .before .before .before .before .before .before .before .before in
-    let d = make z in
-    let a = start d .args in
-    let e = w .sweep .ensures in
-    answer-many (a .image .now) (stand z) (within d) (a .ends .now) (a .tokens .now)
-    (e .0) (e .1 .0) (e .1 .1 .0) (e .1 .1 .1) (c .before .before .least5 .ensures) (c .if2 .taken)
-
-returns-3 : tie.Need-returns-3
-returns-3 c = let why = c .before .why .given .0 .0 in
+returns-2 c = let why = c .before .why .given .0 .0 in
     let d = c .before .before .before .before .before .before .before .before .before .before .before .before .before in
     let a = start d .args in
     answer-refused (a .book .now) (a .image .now) (lent (start d)) (a .ends .now) (a .tokens .now) (refusalOf why .0) (refusalOf why .1) (left d)
     (ap (λ r. record { answer = answerOf r; tables = left d }) (sym (c .before .why .given .1)) ∙ d .build .ensures)
 
-returns-4 : tie.Need-returns-4
-returns-4 c = let d = c .before .before .before .before .before .before .before .before .before .before .before .before .before in
+returns-3 : tie.Need-returns-3
+returns-3 c = let d = c .before .before .before .before .before .before .before .before .before .before .before .before .before in
     let a = start d .args in
     answer-refused (a .book .now) (a .image .now) (lent (start d)) (a .ends .now) (a .tokens .now) 7 (c .before .room .given .0 .0) (left d)
     (ap (λ r. record { answer = answerOf r; tables = left d }) (sym (c .before .room .given .1)) ∙ d .build .ensures)
 
-returns-5 : tie.Need-returns-5
-returns-5 c = let w = c .before .before .before .before .before .before .before in
+returns-4 : tie.Need-returns-4
+returns-4 c = let w = c .before .before .before .before .before .before in
     let z = w .before .before .before .before .before .before .before .before in
     let d = make z in
     let a = start d .args in
     let e = w .sweep .ensures in
-    answer-whole (a .image .now) (stand z) (within d) (a .ends .now) (a .tokens .now)
-    (e .0) (e .1 .0) (e .1 .1 .0) (e .1 .1 .1) (c .before .before .least5 .ensures) (c .if2 .left)
+    answer-built (a .image .now) (stand z) (within d) (a .ends .now) (a .tokens .now)
+    (e .0) (e .1 .0) (e .1 .1 .0) (e .1 .1 .1) (c .before .least .ensures) (sweptOf (c .answer .result)) (fetchedOf (c .answer .result))
+    (c .answer .ensures .0) (c .answer .ensures .1)
 
 pub sweep-image-spec : {M : Type 1} → statement M
 sweep-image-spec =
@@ -92,9 +78,11 @@ sweep-image-spec =
     (tie.spec
     (λ c κs. search needs)
     (λ c κs. search needs)
-    (λ c κs. search needs)
-    (λ c κs. search needs)
-    (λ c κs. search needs)
+    (λ c. search needs)
+    (λ c. search needs)
+    (λ c. search needs)
+    (λ c. search needs)
+    (λ c. search needs)
     returns
     (λ c κs. search needs)
     (λ c. search needs)
@@ -102,8 +90,7 @@ sweep-image-spec =
     (λ c. search needs)
     sweep-requires
     (λ c κs. search needs)
-    (λ c. search needs)
-    (λ c. search needs)
+    (λ c κs. search needs)
     (λ c. search needs)
     (λ c. search needs)
     (λ c. search needs)
@@ -121,12 +108,6 @@ sweep-image-spec =
     (λ c. search needs)
     (λ c. search needs)
     (λ c. search needs)
-    returns-4
     (λ c. search needs)
     (λ c. search needs)
-    (λ c. search needs)
-    (λ c. search needs)
-    (λ c. search needs)
-    (λ c. search needs)
-    (λ c. search needs)
-    returns-5)
+    returns-4)

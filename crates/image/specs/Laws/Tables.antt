@@ -12,11 +12,11 @@ use Rattle.rules.specs.Rules.{Tree}
 use Rattle.rules.specs.Tokens.{ofTokens, ends}
 use Rattle.rules.specs.Laws.Endings.{Numbered, numbered}
 use Rattle.book.specs.Laws.Accepted.{Fit}
-use Rattle.trie.specs.Tables.{Tables}
-use Rattle.trie.specs.Walks.{along, childBy, ending}
+use Rattle.tables.specs.Tables.{Tables}
+use Rattle.tables.specs.Walks.{along, childBy, ending}
 use Rattle.trie.specs.Answers.{tables}
-use Rattle.trie.specs.Laws.Nodes.{Stand}
-use Rattle.trie.specs.Laws.Represents.{Represents}
+use Rattle.tables.specs.Laws.Nodes.{Stand}
+use Rattle.tables.specs.Laws.Represents.{Represents}
 use Rattle.image.specs.Rounds.{Reached, mark, down, passed, reached, met}
 use Rattle.image.specs.Walk.{treeIn, Walkable}
 use Rattle.image.specs.Laws.Roots.{root-grows}

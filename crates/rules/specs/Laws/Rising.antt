@@ -7,7 +7,7 @@ use mathlib.Core.Bool.{Bool, true, false}
 use mathlib.Core.Logic.{_⊎_, inl, inr}
 use mathlib.Core.List.{List, [], _∷_, map, List·Memᴰ, List·Memᴰ·head, List·Memᴰ·tail, List·Memᴰ·not-nil, List·Memᴰ·cases-cons}
 use Rattle.rules.specs.Lists.{filter}
-use Rattle.rules.specs.Sweep.{moved}
+use Rattle.rules.specs.Sweep.{further}
 use Rattle.rules.specs.Laws.Tests.{decide}
 use Rattle.rules.specs.Laws.All.{All, all-filter}
 use Rattle.rules.specs.Laws.Exact.{all-mem}
@@ -38,14 +38,14 @@ module _ (tokens : List (List ℕ)) where
   not-both : (g h : ℕ × ℕ) → Before g h → Before h g → ⊥
   not-both g h a b = omega (arith, a .0, b .0, a .1 (b .0), b .1 (a .0))
 
-  before-moved : (n : ℕ) (g h : ℕ × ℕ) → Before g h → Before (moved n g) (moved n h)
+  before-moved : (n : ℕ) (g h : ℕ × ℕ) → Before g h → Before (further n g) (further n h)
   before-moved n g h b = (omega (arith, b .0), λ k. b .1 (omega arith))
 
-  pub rising-moved : (n : ℕ) (l : List (ℕ × ℕ)) → Rising tokens l → Rising tokens (map (moved n) l)
+  pub rising-moved : (n : ℕ) (l : List (ℕ × ℕ)) → Rising tokens l → Rising tokens (map (further n) l)
   rising-moved n [] r = tt
   rising-moved n (h ∷ l) r = (all l (r .0), rising-moved n l (r .1))
     where
-      all : (l : List (ℕ × ℕ)) → All (Before h) l → All (Before (moved n h)) (map (moved n) l)
+      all : (l : List (ℕ × ℕ)) → All (Before h) l → All (Before (further n h)) (map (further n) l)
       all [] a = tt
       all (g ∷ l) a = (before-moved n h g (a .0), all l (a .1))
 

@@ -7,8 +7,8 @@ use mathlib.Core.Option.{Option, some, none}
 use Rattle.book.specs.Book.{maxBody}
 use Rattle.rules.specs.Rules.{Config, Step, Next, finished, wants, goes, take, next}
 use Rattle.rules.specs.Laws.Tests.{clash}
-use Rattle.trie.specs.Tables.{Tables}
-use Rattle.trie.specs.Broken.{broken}
+use Rattle.tables.specs.Tables.{Tables}
+use Rattle.tables.specs.Broken.{broken}
 use Rattle.scan.specs.declared.Scan.{Scan}
 use Rattle.scan.specs.State.{configOf, treeOf, wantsByte, inRange, maxSupplied}
 use Rattle.scan.specs.Calls.{Answer, refused, Hit, noHit, hitOf, hitIn, counted, settle, enough, agree, judged, carryOn, supply}

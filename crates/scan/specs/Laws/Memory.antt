@@ -13,8 +13,8 @@ use Rattle.rules.specs.Tokens.{shiftOf}
 use Rattle.rules.specs.Laws.All.{All, all-map}
 use Rattle.rules.specs.Laws.Remember.{Lies}
 use Rattle.rules.specs.Laws.Limit.Span.{Spans}
-use Rattle.trie.specs.Tables.{Tables}
-use Rattle.trie.specs.Walks.{ending, depth, lifted, words, ofTables}
+use Rattle.tables.specs.Tables.{Tables}
+use Rattle.tables.specs.Walks.{ending, depth, lifted, words, ofTables}
 use Rattle.trie.specs.Answers.{tables}
 use Rattle.scan.specs.State.{laid, maxStretches}
 use Rattle.scan.specs.Ways.{paths, Climbs}

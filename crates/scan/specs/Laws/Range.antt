@@ -13,9 +13,9 @@ use Rattle.rules.specs.Sweep.{digits4, limit}
 use Rattle.rules.specs.Laws.Digits.{limit-mono, reached4}
 use Rattle.rules.specs.Laws.Limit.Span.{four-few, Spans, Upto, short}
 use Rattle.rules.specs.Laws.Image.{stretchesOf, stretches-length}
-use Rattle.trie.specs.Tables.{Tables}
-use Rattle.trie.specs.Walks.{ending, ofTables}
-use Rattle.trie.specs.Laws.Unbroken.{unbroken}
+use Rattle.tables.specs.Tables.{Tables}
+use Rattle.tables.specs.Walks.{ending, ofTables}
+use Rattle.tables.specs.Laws.Unbroken.{unbroken}
 use Rattle.scan.specs.Calls.{refused, outOfTurn, judged}
 use Rattle.scan.specs.declared.Scan.{Scan}
 use Rattle.scan.specs.State.{configOf, laid, maxStretches, wantsByte, inRange, maxSupplied}

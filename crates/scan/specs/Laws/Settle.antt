@@ -10,8 +10,8 @@ use borrow.Author.Tests.{lt-ltb}
 use Rattle.book.specs.Book.{maxBody}
 use Rattle.rules.specs.Rules.{Config, Event, Step, Next, finished, wants, goes, take, next, follow, trace}
 use Rattle.rules.specs.Laws.Limit.Ends.{stepsLeft}
-use Rattle.trie.specs.Tables.{Tables}
-use Rattle.trie.specs.Walks.{ofTables}
+use Rattle.tables.specs.Tables.{Tables}
+use Rattle.tables.specs.Walks.{ofTables}
 use Rattle.scan.specs.Calls.{Answer, fetch, found, over, refused, Stepped, Hit, noHit, hitOf, hitIn, moved, counted, settle, enough, carryOn, supply}
 use Rattle.scan.specs.declared.Scan.{Scan}
 use Rattle.scan.specs.State.{wantsByte, maxSupplied}

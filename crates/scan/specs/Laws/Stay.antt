@@ -11,8 +11,8 @@ use Rattle.rules.specs.Laws.Limit.{ended-laid}
 use Rattle.rules.specs.Laws.Limit.Span.{cut-ge, kept-spans, kept-upto}
 use Rattle.rules.specs.Laws.Limit.Ends.{stepsLeft, less-end, less-deeper}
 use Rattle.rules.specs.Laws.Exact.Shift.{shift-ge}
-use Rattle.trie.specs.Tables.{Tables}
-use Rattle.trie.specs.Walks.{childBy, ending, depth, words, ofTables}
+use Rattle.tables.specs.Tables.{Tables}
+use Rattle.tables.specs.Walks.{childBy, ending, depth, words, ofTables}
 use Rattle.rules.specs.Laws.Exact.Shift.{shift-upto}
 use Rattle.scan.specs.Laws.Within.{Ready, Fits, Within}
 

@@ -16,10 +16,10 @@ use Rattle.rules.specs.Laws.Exact.Shift.{shift-upto}
 use Rattle.rules.specs.Laws.Exact.{tokens-finite}
 use Rattle.rules.specs.Laws.Image.{configOf, nextOf, stepOf}
 use Rattle.rules.specs.Laws.Alike.{Both, Alike, Apt, AptNext, take-same, take-apt, next-same, next-apt}
-use Rattle.trie.specs.Tables.{Tables}
-use Rattle.trie.specs.Walks.{childBy, ending, words, ofTables}
-use Rattle.trie.specs.Laws.Nodes.{Stand}
-use Rattle.trie.specs.Laws.Represents.{Represents}
+use Rattle.tables.specs.Tables.{Tables}
+use Rattle.tables.specs.Walks.{childBy, ending, words, ofTables}
+use Rattle.tables.specs.Laws.Nodes.{Stand}
+use Rattle.tables.specs.Laws.Represents.{Represents}
 use Rattle.scan.specs.Answers.{answers}
 use Rattle.scan.specs.Calls.{hitIn}
 use Rattle.scan.specs.Laws.Mild.{answered, Mild, MildNext, next-mild}

@@ -6,9 +6,9 @@ use mathlib.Core.List.{List, _∷_}
 use borrow.Author.Tests.{ne-eqb}
 use lib.ListN.{getD, length}
 use Rattle.rules.specs.Laws.Tests.{split}
-use Rattle.trie.specs.Tables.{Tables}
-use Rattle.trie.specs.Walks.{climb, ending, depth, words, lifted}
-use Rattle.trie.specs.Laws.Unbroken.{Unbroken}
+use Rattle.tables.specs.Tables.{Tables}
+use Rattle.tables.specs.Walks.{climb, ending, depth, words, lifted}
+use Rattle.tables.specs.Laws.Unbroken.{Unbroken}
 use Rattle.scan.specs.Ways.{paths, Rises, Readable, Spells}
 
 -- the tokens with node v's too

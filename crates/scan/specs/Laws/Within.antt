@@ -14,10 +14,10 @@ use Rattle.rules.specs.Laws.All.{All}
 use Rattle.rules.specs.Laws.Limit.{Held}
 use Rattle.rules.specs.Laws.Limit.Span.{four-few, Spans, Upto, short}
 use Rattle.book.specs.Book.{maxBody, maxImage}
-use Rattle.trie.specs.Tables.{Tables}
-use Rattle.trie.specs.Walks.{depth}
-use Rattle.trie.specs.Broken.{broken}
-use Rattle.trie.specs.Laws.Unbroken.{Unbroken, unbroken}
+use Rattle.tables.specs.Tables.{Tables}
+use Rattle.tables.specs.Walks.{depth}
+use Rattle.tables.specs.Broken.{broken}
+use Rattle.tables.specs.Laws.Unbroken.{Unbroken, unbroken}
 use Rattle.scan.specs.declared.Scan.{Scan}
 use Rattle.scan.specs.State.{configOf, used, laid, slotsOk, wantsByte, treeOf, maxNodes, maxShortest, farthest, maxSupplied, maxStretches, countOk, imageOk, shortestOk, nodeOk, boundaryOk, suppliedOk, stretchOk, rising, stretchesOk, dueOk, inRange, sameSlots}
 use Rattle.scan.specs.Calls.{moved}

@@ -2,7 +2,7 @@
 use native.Mathlib.Omega.{arith}
 use mathlib.Core.Path.{ap, _∙_}
 use Rattle.book.specs.Book.{readBook, summary}
-use Rattle.sweep.specs.Prefix.{needed, enough}
+use Rattle.book.specs.Laws.Prefix.{needed, enough}
 use borrow.Author.Needs.{needs}
 use Rattle.sweep.proofs.read.Statement.{statement}
 use Rattle.sweep.proofs.read.Tie as tie

@@ -8,9 +8,9 @@ use borrow.Author.Tests.{lt-ltb, le-ltb}
 use Rattle.rules.specs.Tokens.{total}
 use Rattle.book.specs.Book.{Reading, accepted, refused, Totals, totalsOf, summary, readBook, maxBodies}
 use Rattle.book.specs.Laws.Accepted.{accepted-fit}
-use Rattle.trie.specs.Tables.{Tables, shortestTable, tooShort, written, built, build}
+use Rattle.tables.specs.Tables.{Tables, shortestTable, tooShort, written, built, build}
 use Rattle.trie.specs.InPlace.{Room, Counted, filled}
-use Rattle.trie.specs.Laws.Building.{sizesOf, answerTo}
+use Rattle.tables.specs.Laws.Building.{sizesOf, answerTo}
 use Rattle.trie.specs.Laws.Fill.{Fillable}
 
 -- The book is accepted, and these are its totals.

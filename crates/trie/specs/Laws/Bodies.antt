@@ -5,7 +5,7 @@ use mathlib.Core.Path.{_≡_, ap, sym, _∙_}
 use mathlib.Core.List.{List, [], _∷_, reverse, reverse-append}
 use lib.ListN.{length, getD, take, drop, length-drop, length-reverse}
 use lib.Seq.{length-take-le, take-all, take-suc, getD-take, getD-drop}
-use Rattle.trie.specs.Tables.{Tables}
+use Rattle.tables.specs.Tables.{Tables}
 use Rattle.trie.specs.InPlace.{Ready, Placed, placed}
 use Rattle.trie.specs.Laws.Over.{Kept}
 use Rattle.trie.specs.Laws.InPlace.{place-none, place-ready, place-kept, place-on}

@@ -7,13 +7,13 @@ use mathlib.Core.Option.{Option, some, none}
 use borrow.Author.Tests.{eq-eqb, ne-eqb}
 use lib.ListN.{getD}
 use Rattle.rules.specs.Laws.Tests.{split}
-use Rattle.trie.specs.Tables.{Tables}
-use Rattle.trie.specs.Walks.{along, childBy}
+use Rattle.tables.specs.Tables.{Tables}
+use Rattle.tables.specs.Walks.{along, childBy}
 use Rattle.trie.specs.Chain.{walked}
 use Rattle.trie.specs.declared.chain.Way.{Way}
 use Rattle.trie.specs.declared.chain.Way.the-variants.{Found, Ends}
-use Rattle.trie.specs.Laws.Growth.{lastOf}
-use Rattle.trie.specs.Laws.Shape.{tag, head, sib, Shape}
+use Rattle.tables.specs.Laws.Growth.{lastOf}
+use Rattle.tables.specs.Laws.Shape.{tag, head, sib, Shape}
 
 module _ (label next : List ℕ) (x : ℕ) where
   pub walked-end : (left last at : ℕ) → at ≡ 0 → walked label next x left last at ≡ Ends last

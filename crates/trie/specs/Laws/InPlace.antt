@@ -8,17 +8,17 @@ use borrow.Author.Tests.{eq-eqb, ne-eqb}
 use lib.ListN.{length, take, set, length-append}
 use lib.Seq.{length-take-le, getD-take}
 use Rattle.rules.specs.Laws.Tests.{split}
-use Rattle.trie.specs.Tables.{Tables, written, over}
-use Rattle.trie.specs.Walks.{childBy}
+use Rattle.tables.specs.Tables.{Tables, written, over}
+use Rattle.tables.specs.Walks.{childBy}
 use Rattle.trie.specs.Answers.{tables}
 use Rattle.trie.specs.Chain.{walked}
 use Rattle.trie.specs.InPlace.{Room, Ready, putFirst, putBehind, putChild, cut, placed}
 use Rattle.trie.specs.declared.chain.Way.the-variants.{Found, Ends}
-use Rattle.trie.specs.Laws.Growth.{lastOf, Grown, withChild, inserted}
-use Rattle.trie.specs.Laws.Shape.{alike, head, Shape, last-found}
+use Rattle.tables.specs.Laws.Growth.{lastOf, Grown, withChild, inserted}
+use Rattle.tables.specs.Laws.Shape.{alike, head, Shape, last-found}
 use Rattle.trie.specs.Laws.Chain.{walked-end, walked-child, walked-same, walked-last}
-use Rattle.trie.specs.Laws.Grow.{Sized}
-use Rattle.trie.specs.Laws.Insert.{Inserted, inserts}
+use Rattle.tables.specs.Laws.Grow.{Sized}
+use Rattle.tables.specs.Laws.Insert.{Inserted, inserts}
 use Rattle.trie.specs.Laws.Over.{Kept, room-less, over-push, over-change, cut-sized, cut-shape, written-cut, cut-written, written-shape, written-kept, written-room, written-written}
 
 -- the store that a new child wants, by the last child so far

@@ -5,11 +5,11 @@ use mathlib.Core.Path.{_≡_, refl, ap, sym, _∙_}
 use mathlib.Core.List.{List, [], _∷_, _++_}
 use lib.ListN.{length, getD, take, drop, set, length-append, length-set, length-drop, take-append-drop, List·getD-append}
 use lib.Seq.{length-take-le, take-at, drop-append-add, drop-drop, append-snoc, set-split, set-comm, set-append-left, take-set-lt, drop-set-lt, getD-take}
-use Rattle.trie.specs.Tables.{Tables, over, written}
+use Rattle.tables.specs.Tables.{Tables, over, written}
 use Rattle.trie.specs.InPlace.{Room, cut}
-use Rattle.trie.specs.Laws.Shape.{alike, Shape}
-use Rattle.trie.specs.Laws.Grow.{Sized}
-use Rattle.trie.specs.Laws.Build.{shape-agree}
+use Rattle.tables.specs.Laws.Shape.{alike, Shape}
+use Rattle.tables.specs.Laws.Grow.{Sized}
+use Rattle.tables.specs.Laws.Build.{shape-agree}
 
 -- the lists are as long as they were
 pub record Kept (t t′ : Tables) : Type 0 where

@@ -9,12 +9,12 @@ use borrow.Author.Tests.{eqb-true, eq-eqb, ne-eqb, lt-ltb, le-ltb, le-leb, lt-le
 use lib.Dec.{eqb}
 use lib.ListN.{length}
 use Rattle.rules.specs.Laws.Tests.{split, below-suc, passed}
-use Rattle.trie.specs.Tables.{Tables, shortestTable}
-use Rattle.trie.specs.Walks.{climb, depth}
-use Rattle.trie.specs.Broken.{maxDepth, maxNumber, linked, links, sound, firstBreak, broken}
+use Rattle.tables.specs.Tables.{Tables, shortestTable}
+use Rattle.tables.specs.Walks.{climb, depth}
+use Rattle.tables.specs.Broken.{maxDepth, maxNumber, linked, links, sound, firstBreak, broken}
 use Rattle.trie.specs.Answers.{tables, ownSound}
-use Rattle.trie.specs.Laws.Shape.{up, tag, head, sib, Falling, way-step}
-use Rattle.trie.specs.Laws.Insert.{num}
+use Rattle.tables.specs.Laws.Shape.{up, tag, head, sib, Falling, way-step}
+use Rattle.tables.specs.Laws.Insert.{num}
 
 -- the way up from v has at most v steps
 climb-short : (t : Tables) (fuel v : ℕ) → length (climb t fuel v) ≤ fuel

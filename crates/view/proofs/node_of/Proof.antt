@@ -5,7 +5,7 @@ use mathlib.Core.Path.{_≡_, refl}
 use mathlib.Core.List.{List}
 use lib.ListN.{getD}
 use Rattle.book.specs.Book.{placeIn, readBook}
-use Rattle.trie.specs.Tables.{Tables}
+use Rattle.tables.specs.Tables.{Tables}
 use Rattle.trie.specs.Answers.{tables}
 use Rattle.view.specs.View.{bodyOf, nodeOf}
 use Rattle.view.specs.declared.Body.{Body}

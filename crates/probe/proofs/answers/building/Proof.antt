@@ -3,6 +3,15 @@ use borrow.Author.Needs.{needs}
 use Rattle.probe.proofs.answers.building.Statement.{statement}
 use Rattle.probe.proofs.answers.building.Tie as tie
 
+returns : tie.Need-returns
+returns c = rw (c .before .before .answer .given .1) (c .tell .ensures)
+
+returns-2 : tie.Need-returns-2
+returns-2 c = rw (c .before .before .answer2 .given .1) (c .unread .ensures)
+
+returns-3 : tie.Need-returns-3
+returns-3 c = rw (c .before .before .answer3 .given .1) (c .refused .ensures)
+
 pub building-spec : {M : Type 1} → statement M
 building-spec =
     tie.close
@@ -13,6 +22,6 @@ building-spec =
     (λ c κs. search needs)
     (λ c. search needs)
     (λ c κs. search needs)
-    (λ c. rw (c .before .before .answer .given .1) (c .tell .ensures))
-    (λ c. rw (c .before .before .answer2 .given .1) (c .unread .ensures))
-    (λ c. rw (c .before .before .answer3 .given .1) (c .refused .ensures)))
+    returns
+    returns-2
+    returns-3)

@@ -3,6 +3,12 @@ use borrow.Author.Needs.{needs}
 use Rattle.probe.proofs.answers.reading.Statement.{statement}
 use Rattle.probe.proofs.answers.reading.Tie as tie
 
+returns : tie.Need-returns
+returns c = rw (c .before .before .answer .given .1) (c .tell .ensures)
+
+returns-2 : tie.Need-returns-2
+returns-2 c = rw (c .before .before .answer2 .given .1) (c .unread .ensures)
+
 pub reading-spec : {M : Type 1} → statement M
 reading-spec =
     tie.close
@@ -11,5 +17,5 @@ reading-spec =
     (λ c κs. search needs)
     (λ c. search needs)
     (λ c κs. search needs)
-    (λ c. rw (c .before .before .answer .given .1) (c .tell .ensures))
-    (λ c. rw (c .before .before .answer2 .given .1) (c .unread .ensures)))
+    returns
+    returns-2)

@@ -1,7 +1,7 @@
 -- `carry_on` meets its contract: a refusal hands the state back, and else the call runs on.
 use mathlib.Core.Bool.{false}
 use borrow.Author.Needs.{needs}
-use Rattle.trie.specs.Tables.{Tables}
+use Rattle.tables.specs.Tables.{Tables}
 use Rattle.trie.specs.Answers.{tables}
 use Rattle.scan.proofs.Judging.{carry-refused, carry-settles, fine-steady, fine-due}
 use Rattle.scan.proofs.Scan.carry_on.Statement.{statement}

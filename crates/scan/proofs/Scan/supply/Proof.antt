@@ -1,6 +1,6 @@
 -- `supply` meets its contract: a refusal hands the state back, and else the byte is counted and taken, and the call runs on.
 use borrow.Author.Needs.{needs}
-use Rattle.trie.specs.Tables.{Tables}
+use Rattle.tables.specs.Tables.{Tables}
 use Rattle.trie.specs.Answers.{tables}
 use Rattle.scan.proofs.Judging.{supply-refused, counted-steady, taken-steady, taken-due, supply-settles, supply-hits}
 use Rattle.scan.proofs.Scan.supply.Statement.{statement}

@@ -4,8 +4,8 @@ use mathlib.Core.Bool.{Bool, true, false, not}
 use mathlib.Core.Option.{none}
 use borrow.Author.Needs.{needs}
 use borrow.Author.Tests.{not-true, not-false}
-use Rattle.trie.specs.Tables.{Tables}
-use Rattle.trie.specs.Broken.{broken}
+use Rattle.tables.specs.Tables.{Tables}
+use Rattle.tables.specs.Broken.{broken}
 use Rattle.trie.specs.Answers.{tables}
 use Rattle.scan.specs.State.{inRange}
 use Rattle.scan.specs.Calls.{judged}

@@ -4,7 +4,7 @@ use mathlib.Core.Path.{ap, _∙_}
 use lib.ListN.{length}
 use Rattle.rules.specs.Lists.{least}
 use Rattle.agree.specs.Tests.{nodeTest, byteTest}
-use Rattle.trie.specs.Walks.{ending}
+use Rattle.tables.specs.Walks.{ending}
 use Rattle.scan.specs.Ways.{paths}
 use Rattle.scan.proofs.Lowering.{written-size, written-word, written-length}
 use borrow.Author.Needs.{needs}

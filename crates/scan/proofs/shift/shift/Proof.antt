@@ -3,7 +3,7 @@ use native.Mathlib.Omega.{arith}
 use mathlib.Core.Path.{refl, ap}
 use mathlib.Core.Option.{some, none}
 use lib.ListN.{replicate}
-use Rattle.trie.specs.Walks.{ending}
+use Rattle.tables.specs.Walks.{ending}
 use Rattle.scan.specs.Ways.{paths}
 use Rattle.scan.specs.Shifts.{closingOf}
 use Rattle.scan.specs.Laws.Ways.{spells}

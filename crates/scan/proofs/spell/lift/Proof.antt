@@ -3,7 +3,7 @@ use Prim.Native.Nat.{_<_}
 use native.Mathlib.Omega.{arith}
 use mathlib.Core.Path.{_≡_, ap, sym, _∙_}
 use mathlib.Core.List.{[]}
-use Rattle.trie.specs.Walks.{lifted}
+use Rattle.tables.specs.Walks.{lifted}
 use Rattle.scan.specs.Ways.{paths, Climbs}
 use Rattle.scan.proofs.Climbing.{parent-below, lift-ends, lift-goes}
 use borrow.Author.Needs.{needs}

@@ -4,7 +4,7 @@ use mathlib.Core.Path.{_≡_, subst}
 use borrow.Author.Needs.{needs}
 use Rattle.book.specs.Book.{maxBody}
 use Rattle.rules.specs.Laws.Limit.Ends.{stepsLeft}
-use Rattle.trie.specs.Tables.{Tables}
+use Rattle.tables.specs.Tables.{Tables}
 use Rattle.trie.specs.Answers.{tables}
 use Rattle.scan.specs.declared.steps.Move.{Move}
 use Rattle.scan.specs.declared.steps.Move.the-variants.{Finished, Wants, End, Take}

@@ -1,8 +1,9 @@
 -- `recall` meets its contract: the byte lies so far above the node of the stretch that has the place.
+use Prim.Native.Nat.{_-_}
 use native.Mathlib.Omega.{arith}
 use borrow.Author.Needs.{needs}
 use Rattle.scan.specs.State.{used}
-use Rattle.scan.proofs.Recalling.{recalled-none, held-climbs, held-inside, recalled-below, recalled}
+use Rattle.scan.proofs.Recalling.{recalled-none, held-climbs, held-inside, lifted-below, recalled}
 use Rattle.scan.proofs.stretches.recall.Statement.{statement}
 use Rattle.scan.proofs.stretches.recall.Tie as tie
 
@@ -36,8 +37,8 @@ shared-slice-read-t11 c = let k = c .before .before .before .before .before .bef
     let s = c .before .before .before .before .s .given in
     omega (
       arith,
-      recalled-below (a .parent .now) (a .label .now) (used (a .slots)) (a .at) (k .seek .result) (k .seek .ensures) (s .0 .0) (s .1) (start k .pre .0)
-          (c .before .lift .result) (c .before .lift .ensures),
+      lifted-below (a .parent .now) (a .label .now) (used (a .slots)) (a .at) (k .seek .result) (k .seek .ensures) (s .0 .0) (s .1) (start k .pre .0)
+          (a .at - s .0 .0 .left) (c .before .lift .result) (c .before .lift .ensures),
     )
 
 returns : tie.Need-returns

@@ -5,8 +5,8 @@ use mathlib.Core.Path.{_≡_, ap, sym, _∙_}
 use mathlib.Core.Bool.{true}
 use borrow.Author.Tests.{not-true, not-false}
 use borrow.Author.Needs.{needs}
-use Rattle.trie.specs.Tables.{Tables}
-use Rattle.trie.specs.Broken.{sound, firstBreak, broken}
+use Rattle.tables.specs.Tables.{Tables}
+use Rattle.tables.specs.Broken.{sound, firstBreak, broken}
 use Rattle.trie.specs.Answers.{tables}
 use Rattle.trie.specs.Laws.Testing.{short-breaks, long-enough, root-breaks, root-passes, root-up, break-bare}
 use Rattle.trie.proofs.breaks.first_break.Statement.{statement}

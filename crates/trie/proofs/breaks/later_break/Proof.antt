@@ -7,10 +7,10 @@ use mathlib.Core.Path.{_≡_, sym, _∙_}
 use mathlib.Core.List.{[]}
 use borrow.Author.Tests.{not-true, not-false}
 use borrow.Author.Needs.{needs}
-use Rattle.trie.specs.Tables.{Tables}
-use Rattle.trie.specs.Walks.{depth}
+use Rattle.tables.specs.Tables.{Tables}
+use Rattle.tables.specs.Walks.{depth}
 use Rattle.trie.specs.Answers.{tables}
-use Rattle.trie.specs.Laws.Shape.{up}
+use Rattle.tables.specs.Laws.Shape.{up}
 use Rattle.trie.specs.Laws.Testing.{Passing, Standing, begins, done, high-breaks, falls-on, deep-breaks, stands, stands-end, own-breaks, again, depth-bare, falling-bare}
 use Rattle.trie.proofs.breaks.later_break.Statement.{statement}
 use Rattle.trie.proofs.breaks.later_break.Tie as tie

@@ -2,7 +2,7 @@
 use native.Mathlib.Omega.{arith}
 use borrow.Author.Tests.{not-true, not-false, le-leb, lt-leb}
 use borrow.Author.Needs.{needs}
-use Rattle.trie.specs.Broken.{maxNumber}
+use Rattle.tables.specs.Broken.{maxNumber}
 use Rattle.trie.proofs.breaks.own_sound.Statement.{statement}
 use Rattle.trie.proofs.breaks.own_sound.Tie as tie
 

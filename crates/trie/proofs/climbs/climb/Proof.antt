@@ -4,7 +4,7 @@ use native.Mathlib.Omega.{arith}
 use mathlib.Core.Path.{ap}
 use mathlib.Core.List.{[]}
 use borrow.Author.Needs.{needs}
-use Rattle.trie.specs.Walks.{depth}
+use Rattle.tables.specs.Walks.{depth}
 use Rattle.trie.specs.Answers.{tables}
 use Rattle.trie.specs.Laws.Testing.{Climbing, climb-on}
 use Rattle.trie.proofs.climbs.climb.Statement.{statement}

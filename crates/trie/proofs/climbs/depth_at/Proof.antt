@@ -4,8 +4,8 @@ use native.Mathlib.Omega.{arith}
 use mathlib.Core.Path.{_≡_, ap}
 use mathlib.Core.List.{[]}
 use borrow.Author.Needs.{needs}
-use Rattle.trie.specs.Tables.{Tables}
-use Rattle.trie.specs.Walks.{depth}
+use Rattle.tables.specs.Tables.{Tables}
+use Rattle.tables.specs.Walks.{depth}
 use Rattle.trie.specs.Answers.{tables}
 use Rattle.trie.specs.Laws.Testing.{falling-below, depth-up, depth-le}
 use Rattle.trie.proofs.climbs.depth_at.Statement.{statement}

@@ -2,7 +2,7 @@
 use native.Mathlib.Omega.{arith}
 use borrow.Author.Needs.{needs}
 use lib.ListN.{length-set}
-use Rattle.trie.specs.Tables.{Tables}
+use Rattle.tables.specs.Tables.{Tables}
 use Rattle.trie.specs.Answers.{tables}
 use Rattle.trie.specs.Laws.InPlace.{put-as-first, put-as-last}
 use Rattle.trie.proofs.grow.put_child.Statement.{statement}

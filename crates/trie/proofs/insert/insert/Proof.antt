@@ -5,7 +5,7 @@ use mathlib.Core.List.{List}
 use mathlib.Core.Path.{_≡_, ap, sym, _∙_}
 use borrow.Author.Needs.{needs}
 use lib.ListN.{length, getD, take, drop, length-set}
-use Rattle.trie.specs.Tables.{Tables}
+use Rattle.tables.specs.Tables.{Tables}
 use Rattle.trie.specs.Answers.{tables}
 use Rattle.trie.specs.InPlace.{numbered}
 use Rattle.trie.specs.Laws.Over.{Kept}

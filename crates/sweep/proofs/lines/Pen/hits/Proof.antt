@@ -7,10 +7,10 @@ use Rattle.sweep.proofs.lines.Pen.hits.Statement.{statement}
 use Rattle.sweep.proofs.lines.Pen.hits.Tie as tie
 
 abbrev Inv-loop : tie.InvT-loop
-Inv-loop out₀ from first last ends tokens pen₀ i₀ t11 out pen i = length out ≡ length out₀
+Inv-loop out₀ from first last ends tokens pen₀ i₀ out pen i = length out ≡ length out₀
 
 abbrev μ-loop : tie.MeasureT-loop
-μ-loop out₀ from first last ends tokens pen₀ i₀ t11 out pen i = last - i
+μ-loop out₀ from first last ends tokens pen₀ i₀ out pen i = last - i
 
 loop-holds : tie.Need-loop-holds Inv-loop μ-loop
 loop-holds c = search needs
@@ -21,14 +21,11 @@ entry-requires c κs = search needs
 add-end : tie.Need-add-end Inv-loop μ-loop
 add-end c = search needs
 
-slice-aggregate-line : tie.Need-slice-aggregate-line Inv-loop μ-loop
-slice-aggregate-line c = search needs
-
 entry-requires-2 : tie.Need-entry-requires-2 Inv-loop μ-loop
 entry-requires-2 c κs = search needs
 
-line-requires : tie.Need-line-requires Inv-loop μ-loop
-line-requires c κs = search needs
+hit-requires : tie.Need-hit-requires Inv-loop μ-loop
+hit-requires c κs = search needs
 
 add-i : tie.Need-add-i Inv-loop μ-loop
 add-i c = search needs
@@ -54,9 +51,8 @@ hits-spec =
     loop-holds
     entry-requires
     add-end
-    slice-aggregate-line
     entry-requires-2
-    line-requires
+    hit-requires
     add-i
     loop-less
     loop-again

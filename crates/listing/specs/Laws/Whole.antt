@@ -8,14 +8,13 @@ use borrow.Author.Tests.{lt-ltb, le-ltb, lt-leb, ltb-true, ltb-false, leb-true, 
 use lib.Dec.{leb, ltb}
 use lib.ListN.{length}
 use Rattle.rules.specs.Lists.{filter}
-use Rattle.rules.specs.Sweep.{Occurrences, Ordered}
+use Rattle.rules.specs.Sweep.{Occurrences, Ordered, hitsOf}
 use Rattle.rules.specs.Laws.Tests.{decide}
 use Rattle.rules.specs.Laws.Exact.{happens-exact}
 use Rattle.book.specs.Book.{readBook, accepted}
 use Rattle.book.specs.Laws.Accepted.{accepted-setting, accepted-longest}
-use Rattle.image.specs.Image.{hitsOf}
-use Rattle.sweep.specs.Parts.{past, upTo, fromAt, toAt, listedFrom}
-use Rattle.sweep.specs.Laws.Part.{part}
+use Rattle.listing.specs.Parts.{past, upTo, fromAt, toAt, listedFrom}
+use Rattle.listing.specs.Laws.Part.{part}
 
 -- A filter that each element passes, and one that none passes.
 module _ {A : Type 0} (p : A → Bool) where

@@ -8,7 +8,7 @@ use lib.ListN.{length, drop}
 use Rattle.rules.specs.Tokens.{total, shortestOf, longestOf}
 use Rattle.rules.specs.Laws.Tests.{decide}
 use Rattle.book.specs.Book.{Verdict, Reading, accepted, refused, readBook}
-use Rattle.trie.specs.Tables.{Tables, nodes, built, Lent, written, tooShort, Sizes, Building, build}
+use Rattle.tables.specs.Tables.{Tables, nodes, built, Lent, written, tooShort, Sizes, Building, build}
 
 abbrev pub sizesOf : List (List ℕ) → Sizes
 sizesOf tokens = record { nodes = length (nodes tokens); shortest = shortestOf tokens; longest = longestOf tokens }

@@ -10,11 +10,11 @@ use lib.Dec.{leb, ltb, eqb}
 use lib.ListN.{length, length-drop}
 use Rattle.book.specs.Book.{maxBody, maxTokens}
 use Rattle.rules.specs.Laws.Tests.{decide, Passed, passed, split}
-use Rattle.trie.specs.Tables.{Tables, shortestTable}
-use Rattle.trie.specs.Walks.{along, childBy, ending, depth, lifted}
-use Rattle.trie.specs.Broken.{maxNumber, linked, links, sound, firstBreak, broken, maxDepth}
-use Rattle.trie.specs.Laws.Shape.{up, tag, head, sib, Falling, way-step, way-lifts}
-use Rattle.trie.specs.Laws.Insert.{num}
+use Rattle.tables.specs.Tables.{Tables, shortestTable}
+use Rattle.tables.specs.Walks.{along, childBy, ending, depth, lifted}
+use Rattle.tables.specs.Broken.{maxNumber, linked, links, sound, firstBreak, broken, maxDepth}
+use Rattle.tables.specs.Laws.Shape.{up, tag, head, sib, Falling, way-step, way-lifts}
+use Rattle.tables.specs.Laws.Insert.{num}
 
 pub record Unbroken (t : Tables) (count : ℕ) : Type 0 where
   pub held : count ≤ shortestTable t

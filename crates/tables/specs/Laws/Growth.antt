@@ -6,8 +6,8 @@ use mathlib.Core.List.{List, [], _∷_, _++_, reverse}
 use mathlib.Core.Option.{some, none}
 use lib.Dec.{eqb}
 use lib.ListN.{length, getD, set}
-use Rattle.trie.specs.Tables.{Tables}
-use Rattle.trie.specs.Walks.{childBy}
+use Rattle.tables.specs.Tables.{Tables}
+use Rattle.tables.specs.Walks.{childBy}
 
 -- The last of a chain.
 abbrev pub lastOf : Tables → ℕ → ℕ → ℕ

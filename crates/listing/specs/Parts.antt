@@ -7,8 +7,7 @@ use lib.Dec.{leb, ltb}
 use lib.ListN.{length, take, drop}
 use Rattle.rules.specs.Lists.{filter}
 use Rattle.rules.specs.Tokens.{longestOf}
-use Rattle.rules.specs.Sweep.{moved}
-use Rattle.image.specs.Image.{hitsOf}
+use Rattle.rules.specs.Sweep.{further, hitsOf}
 
 -- How many hits the buffers hold, and how many bytes a part may have: at most 68 tokens end at one place (`Laws.Fits`).
 abbrev pub maxHits : ℕ
@@ -49,7 +48,7 @@ module _ (tokens : List (List ℕ)) (image : List ℕ) where
   partAt at = between (fromAt at) (toAt at) image
 
   abbrev pub listedAt : ℕ → List (ℕ × ℕ)
-  listedAt at = past at (map (moved (fromAt at)) (hitsOf tokens (partAt at)))
+  listedAt at = past at (map (further (fromAt at)) (hitsOf tokens (partAt at)))
 
   -- What is listed from `at` on. Each part goes on by a byte at least, so the image's length is fuel enough.
   abbrev pub listedFrom : ℕ → ℕ → List (ℕ × ℕ)

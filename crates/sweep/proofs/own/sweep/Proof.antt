@@ -1,14 +1,14 @@
--- `sweep::tables::sweep` meets its contract: its tables are long enough.
+-- `sweep::own::sweep` meets its contract: its tables are long enough.
 use Prim.Native.Nat.{ℕ, _≤_}
 use native.Mathlib.Omega.{arith}
 use mathlib.Core.Path.{_≡_}
 use lib.ListN.{length, replicate, length-replicate}
-use Rattle.trie.specs.Tables.{Tables, shortestTable}
+use Rattle.tables.specs.Tables.{Tables, shortestTable}
 use Rattle.trie.specs.Answers.{tables}
 use Rattle.sweep.proofs.Sweeping.{finds}
 use borrow.Author.Needs.{needs}
-use Rattle.sweep.proofs.tables.sweep.Statement.{statement}
-use Rattle.sweep.proofs.tables.sweep.Tie as tie
+use Rattle.sweep.proofs.own.sweep.Statement.{statement}
+use Rattle.sweep.proofs.own.sweep.Tie as tie
 
 slice-aggregate-sweep-image : tie.Need-slice-aggregate-sweep-image
 slice-aggregate-sweep-image c = search needs

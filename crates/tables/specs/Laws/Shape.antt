@@ -9,9 +9,9 @@ use lib.Dec.{eqb}
 use lib.ListN.{getD, drop}
 use lib.Seq.{drop-nil}
 use Rattle.rules.specs.Laws.Tests.{decide, split}
-use Rattle.trie.specs.Tables.{Tables}
-use Rattle.trie.specs.Walks.{along, childBy, climb, ending, lifted}
-use Rattle.trie.specs.Laws.Growth.{lastOf}
+use Rattle.tables.specs.Tables.{Tables}
+use Rattle.tables.specs.Walks.{along, childBy, climb, ending, lifted}
+use Rattle.tables.specs.Laws.Growth.{lastOf}
 
 -- tables are their five lists
 pub alike : (t u : Tables) → t .parent ≡ u .parent → t .label ≡ u .label → t .token ≡ u .token → t .first ≡ u .first → t .next ≡ u .next → t ≡ u

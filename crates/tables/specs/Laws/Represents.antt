@@ -12,15 +12,15 @@ use lib.Seq.{take-length}
 use Rattle.rules.specs.Lists.{any, numberFrom}
 use Rattle.rules.specs.Tokens.{ends, fromRight, grown, shiftOf, total, longestOf}
 use Rattle.book.specs.Laws.Accepted.{Fit}
-use Rattle.trie.specs.Tables.{Tables, nodes, built, Lent, shortestTable}
-use Rattle.trie.specs.Laws.Growth.{insertedAll}
-use Rattle.trie.specs.Walks.{childBy, ending, depth, words, ofTables}
-use Rattle.trie.specs.Broken.{broken}
-use Rattle.trie.specs.Laws.Shape.{ending-step, ending-apart}
-use Rattle.trie.specs.Laws.Build.{Facts, facts-agree, built-facts}
-use Rattle.trie.specs.Laws.Nodes.{Stand, real, deep, stands, child, leaf, bytes, lifts, word, shift-same, token}
-use Rattle.trie.specs.Laws.Sound.{fine}
-use Rattle.trie.specs.Laws.Same.{inserted-built}
+use Rattle.tables.specs.Tables.{Tables, nodes, built, Lent, shortestTable}
+use Rattle.tables.specs.Laws.Growth.{insertedAll}
+use Rattle.tables.specs.Walks.{childBy, ending, depth, words, ofTables}
+use Rattle.tables.specs.Broken.{broken}
+use Rattle.tables.specs.Laws.Shape.{ending-step, ending-apart}
+use Rattle.tables.specs.Laws.Build.{Facts, facts-agree, built-facts}
+use Rattle.tables.specs.Laws.Nodes.{Stand, real, deep, stands, child, leaf, bytes, lifts, word, shift-same, token}
+use Rattle.tables.specs.Laws.Sound.{fine}
+use Rattle.tables.specs.Laws.Same.{inserted-built}
 
 pub record Represents (t : Tables) (count : ℕ) (tokens : List (List ℕ)) : Type 0 where
   pub some-node : 1 ≤ count

@@ -8,8 +8,8 @@ use mathlib.Core.Option.{Option, some, none}
 use lib.Dec.{eqb}
 use lib.ListN.{replicate, set, take}
 use Rattle.book.specs.Book.{accepted, refused}
-use Rattle.trie.specs.Tables.{Tables, built, build}
-use Rattle.trie.specs.Broken.{broken}
+use Rattle.tables.specs.Tables.{Tables, built, build}
+use Rattle.tables.specs.Broken.{broken}
 
 -- "ab", "b", "cb", "ba": the nodes are "", "b", "ab", "cb", "a", "ba"
 abbrev four : Tables

@@ -8,13 +8,12 @@ use lib.Dec.{leb, ltb}
 use lib.ListN.{length, getD, drop, length-take, length-drop}
 use lib.Seq.{getD-take, getD-drop}
 use Rattle.rules.specs.Tokens.{longestOf, shortestOf}
-use Rattle.rules.specs.Sweep.{Stands, moved}
+use Rattle.rules.specs.Sweep.{Stands, further, hitsOf}
 use Rattle.rules.specs.Laws.Setting.{Setting}
 use Rattle.rules.specs.Laws.Exact.{happens-exact}
 use Rattle.rules.specs.Laws.Exact.Reads.{byteOf, stands→reads, reads→stands}
 use Rattle.rules.specs.Laws.Rising.{filter-in, filter-out, rising-moved, rising-filter, same-members}
-use Rattle.image.specs.Image.{hitsOf}
-use Rattle.sweep.specs.Parts.{between, past, upTo}
+use Rattle.listing.specs.Parts.{between, past, upTo}
 
 pub pair : (g h : ℕ × ℕ) → g .0 ≡ h .0 → g .1 ≡ h .1 → g ≡ h
 pair g h e i = ap (λ n. (n, g .1)) e ∙ ap (λ n. (h .0, n)) i
@@ -56,10 +55,10 @@ module _ (tokens : List (List ℕ)) (setting : Setting tokens (shortestOf tokens
   abbrev ofImage : List (ℕ × ℕ)
   ofImage = hitsOf tokens image
 
-  out : (h : ℕ × ℕ) → List·Memᴰ h (past at (map (moved from) ofPart)) → List·Memᴰ h (past at (upTo to ofImage))
+  out : (h : ℕ × ℕ) → List·Memᴰ h (past at (map (further from) ofPart)) → List·Memᴰ h (past at (upTo to ofImage))
   out h m =
-      let f = filter-out (λ h. ltb at (h .0)) h (map (moved from) ofPart) m in
-      let g = Memᴰ·of-map (moved from) ofPart (f .0) in
+      let f = filter-out (λ h. ltb at (h .0)) h (map (further from) ofPart) m in
+      let g = Memᴰ·of-map (further from) ofPart (f .0) in
       let e = g .0 .0 in
       let i = g .0 .1 in
       let s = happens-exact tokens setting (between from to image) .occurrences .sound e i (g .1) in
@@ -73,7 +72,7 @@ module _ (tokens : List (List ℕ)) (setting : Setting tokens (shortestOf tokens
       (le-leb (h .0) to inside))
       (f .1)
 
-  back : (h : ℕ × ℕ) → List·Memᴰ h (past at (upTo to ofImage)) → List·Memᴰ h (past at (map (moved from) ofPart))
+  back : (h : ℕ × ℕ) → List·Memᴰ h (past at (upTo to ofImage)) → List·Memᴰ h (past at (map (further from) ofPart))
   back h m =
       let f = filter-out (λ h. ltb at (h .0)) h (upTo to ofImage) m in
       let g = filter-out (λ h. leb (h .0) to) h ofImage (f .0) in
@@ -85,15 +84,15 @@ module _ (tokens : List (List ℕ)) (setting : Setting tokens (shortestOf tokens
       let z : from + e ≡ h .0 = omega arith in
       let short : length (getD tokens i []) ≤ e = omega (arith, s .0 .fits, setting .longest i (s .0 .numbered)) in
       let p = stands-in tokens image from to e i short (omega arith) (rw z (s .0)) in
-      let c = Memᴰ·map (moved from) (happens-exact tokens setting (between from to image) .occurrences .complete e i p) in
+      let c = Memᴰ·map (further from) (happens-exact tokens setting (between from to image) .occurrences .complete e i p) in
       let y : h .1 ≡ i + 1 = omega (arith, s .1) in
       let q : h ≡ (from + e, i + 1) = pair h (from + e, i + 1) (sym z) y in
-      filter-in (λ h. ltb at (h .0)) h (map (moved from) ofPart) (Memᴰ·cast q c) (f .1)
+      filter-in (λ h. ltb at (h .0)) h (map (further from) ofPart) (Memᴰ·cast q c) (f .1)
 
-  pub part : past at (map (moved from) (hitsOf tokens (between from to image))) ≡ past at (upTo to (hitsOf tokens image))
+  pub part : past at (map (further from) (hitsOf tokens (between from to image))) ≡ past at (upTo to (hitsOf tokens image))
   part =
       same-members tokens _ _
-      (rising-filter tokens (λ h. ltb at (h .0)) (map (moved from) ofPart)
+      (rising-filter tokens (λ h. ltb at (h .0)) (map (further from) ofPart)
       (rising-moved tokens from ofPart (happens-exact tokens setting (between from to image) .rising)))
       (rising-filter tokens (λ h. ltb at (h .0)) (upTo to ofImage)
       (rising-filter tokens (λ h. leb (h .0) to) ofImage (happens-exact tokens setting image .rising)))

@@ -7,7 +7,7 @@ use lib.Dec.{eqb}
 use lib.ListN.{length, getD}
 use Rattle.rules.specs.Rules.{Tree}
 use Rattle.rules.specs.Tokens.{shiftOf}
-use Rattle.trie.specs.Tables.{Tables}
+use Rattle.tables.specs.Tables.{Tables}
 
 -- The walk along a chain from node `at`: the first with that label, or none at the chain's end.
 abbrev pub along : Tables → ℕ → ℕ → ℕ → Option ℕ

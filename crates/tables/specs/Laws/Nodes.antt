@@ -15,11 +15,11 @@ use Rattle.rules.specs.Laws.Tests.{clash, same-test, not-test, false-test, and-
 use Rattle.rules.specs.Laws.Endings.{same-refl, same→eq, ends→front, front→ends, ends-shorter}
 use Rattle.rules.specs.Laws.Lengths.{longest-ge}
 use Rattle.book.specs.Laws.Accepted.{Fit}
-use Rattle.trie.specs.Tables.{Tables}
-use Rattle.trie.specs.Walks.{childBy, ending, depth, lifted, words}
-use Rattle.trie.specs.Laws.Shape.{up, tag, head, Shape, Found, falling, way-lifts, child-found, ending-step, ending-cons, ending-apart}
-use Rattle.trie.specs.Laws.Insert.{num}
-use Rattle.trie.specs.Laws.Build.{Numbered, Facts}
+use Rattle.tables.specs.Tables.{Tables}
+use Rattle.tables.specs.Walks.{childBy, ending, depth, lifted, words}
+use Rattle.tables.specs.Laws.Shape.{up, tag, head, Shape, Found, falling, way-lifts, child-found, ending-step, ending-cons, ending-apart}
+use Rattle.tables.specs.Laws.Insert.{num}
+use Rattle.tables.specs.Laws.Build.{Numbered, Facts}
 
 -- a node stands for an ending, or both are missing
 abbrev pub Stand : Tables → ℕ → Option ℕ → Option (List ℕ) → Type 0

@@ -12,12 +12,12 @@ use Rattle.book.specs.Book.{maxBody, maxTokens}
 use Rattle.rules.specs.Laws.Tests.{decide, or-r, split}
 use Rattle.rules.specs.Laws.Endings.{ends-shorter}
 use Rattle.book.specs.Laws.Accepted.{Fit}
-use Rattle.trie.specs.Tables.{Tables, shortestTable}
-use Rattle.trie.specs.Walks.{ending, depth}
-use Rattle.trie.specs.Broken.{maxNumber, linked, links, sound, firstBreak, broken, maxDepth}
-use Rattle.trie.specs.Laws.Shape.{up, head, sib, Shape}
-use Rattle.trie.specs.Laws.Insert.{num}
-use Rattle.trie.specs.Laws.Build.{Numbered, Facts}
+use Rattle.tables.specs.Tables.{Tables, shortestTable}
+use Rattle.tables.specs.Walks.{ending, depth}
+use Rattle.tables.specs.Broken.{maxNumber, linked, links, sound, firstBreak, broken, maxDepth}
+use Rattle.tables.specs.Laws.Shape.{up, head, sib, Shape}
+use Rattle.tables.specs.Laws.Insert.{num}
+use Rattle.tables.specs.Laws.Build.{Numbered, Facts}
 
 numbered-le : (tokens : List (List ℕ)) (k : ℕ) (u : List ℕ) (m : ℕ) → Numbered tokens k u m → m ≤ k
 numbered-le tokens k u zero f = omega arith

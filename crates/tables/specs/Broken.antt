@@ -5,8 +5,8 @@ use mathlib.Core.Option.{Option, some, none}
 use lib.Dec.{leb, ltb, eqb}
 use lib.ListN.{getD}
 use Rattle.book.specs.Book.{maxTokens, maxBody}
-use Rattle.trie.specs.Tables.{Tables, shortestTable}
-use Rattle.trie.specs.Walks.{depth}
+use Rattle.tables.specs.Tables.{Tables, shortestTable}
+use Rattle.tables.specs.Walks.{depth}
 
 -- how deep a node may lie, and how great its token number may be
 abbrev pub maxDepth : ℕ

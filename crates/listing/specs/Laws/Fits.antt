@@ -7,7 +7,7 @@ use borrow.Author.Tests.{lt-ltb, ltb-true, ltb-false}
 use lib.Dec.{ltb}
 use lib.ListN.{length, getD, length-map, List·getD-map}
 use Rattle.rules.specs.Lists.{filter}
-use Rattle.rules.specs.Sweep.{Stands, Once, Occurrences}
+use Rattle.rules.specs.Sweep.{Stands, Once, Occurrences, hitsOf}
 use Rattle.rules.specs.Laws.Tests.{decide}
 use Rattle.rules.specs.Laws.All.{All, all-append}
 use Rattle.rules.specs.Laws.Exact.{happens-exact}
@@ -16,10 +16,9 @@ use Rattle.rules.specs.Laws.Rising.{filter-out}
 use Rattle.book.specs.Book.{readBook, accepted, bodyLength, kindAt, bodyAt, sizeAt}
 use Rattle.book.specs.Laws.Taken.{Taken, opened-length, accepted-keeps}
 use Rattle.book.specs.Laws.Accepted.{accepted-setting}
-use Rattle.image.specs.Image.{hitsOf}
-use Rattle.sweep.specs.Parts.{maxHits, maxPart}
-use Rattle.sweep.specs.Laws.Part.{pair}
-use Rattle.sweep.specs.Laws.Whole.{filter-all}
+use Rattle.listing.specs.Parts.{maxHits, maxPart}
+use Rattle.listing.specs.Laws.Part.{pair}
+use Rattle.listing.specs.Laws.Whole.{filter-all}
 
 -- A list of different numbers below m has at most m.
 abbrev Apart : List ℕ → Type 0

@@ -9,9 +9,9 @@ use lib.Seq.{getD-at}
 use Rattle.rules.specs.Lists.{same, any}
 use Rattle.rules.specs.Laws.Tests.{false-test, below-suc, any-in, any-out}
 use Rattle.rules.specs.Laws.Endings.{same-refl, same→eq}
-use Rattle.trie.specs.Tables.{Tables, endingsOf, notedTokens}
-use Rattle.trie.specs.Walks.{ending}
-use Rattle.trie.specs.Laws.Shape.{Shape, Agree, ending-same}
+use Rattle.tables.specs.Tables.{Tables, endingsOf, notedTokens}
+use Rattle.tables.specs.Walks.{ending}
+use Rattle.tables.specs.Laws.Shape.{Shape, Agree, ending-same}
 
 -- the n nodes have the endings us, in this order
 pub record Listed (t : Tables) (n : ℕ) (us : List (List ℕ)) : Type 0 where

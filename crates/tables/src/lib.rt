@@ -1,0 +1,1 @@
+// The tree tables: definitions and laws, no code.
