@@ -1,4 +1,4 @@
--- Samples of refused books, as one table: each cause alone, and pairs of causes that pin their order.
+-- Samples of refused books, a table for each cause: the cause alone, and beside others so that their order is pinned.
 use Prim.Native.Nat.{ℕ, suc}
 use mathlib.Core.Path.{_≡_, refl}
 use mathlib.Core.Bool.{Bool, true, false, _&&_}
@@ -24,26 +24,6 @@ letters k = replicate k (97 ∷ [])
 long : ℕ → List (List ℕ)
 long k = replicate k (replicate 1024 97)
 
-samples : List Sample
-unfolding row letters long
-samples =
-    row [] (1 ∷ 97 ∷ []) 1 2  -- the kind is missing
-    ∷ row [] (1 ∷ 97 ∷ 2 ∷ 98 ∷ []) 1 2  -- the body is short
-    ∷ row [] (1 ∷ 97 ∷ 69 ∷ []) 2 2  -- the kind is above 44h, and 2 comes before 1 for a short body
-    ∷ row [] (1 ∷ 97 ∷ 68 ∷ []) 1 2  -- 44h is a kind
-    ∷ row [] (1 ∷ 97 ∷ 0 ∷ 7 ∷ []) 3 3  -- bytes after 00h
-    ∷ row [] (0 ∷ 0 ∷ []) 3 1  -- 3 comes before 6
-    ∷ row [] (0 ∷ []) 6 0  -- no token
-    ∷ row [] (1 ∷ 97 ∷ 1 ∷ 97 ∷ []) 4 2  -- a repeat, before what follows it
-    ∷ row (letters 256) (1 ∷ 98 ∷ 0 ∷ []) 5 0  -- token 257
-    ∷ row (letters 256) (1 ∷ 97 ∷ 0 ∷ []) 5 0  -- 5 comes before 4
-    ∷ row (letters 256) (2 ∷ 97 ∷ []) 1 0  -- 1 for a short body comes before 5
-    ∷ row (letters 256) (0 ∷ 7 ∷ []) 3 1  -- 256 tokens pass
-    ∷ row (letters 255) (1 ∷ 97 ∷ 0 ∷ []) 4 0  -- so does the 256th as such
-    ∷ row (long 16) (1 ∷ 98 ∷ 0 ∷ []) 5 0  -- body byte 16,385
-    ∷ row (replicate 1023 97 ∷ long 15) (1 ∷ 98 ∷ 69 ∷ []) 2 2  -- 16,384 body bytes pass
-    ∷ []
-
 right : Reading → Sample → Bool
 right (accepted tokens) s = false
 right (refused k v) s = eqb k (s .number) && eqb v (s .value)
@@ -53,6 +33,42 @@ unfolding right
 allRight [] = true
 allRight (s ∷ ss) = right (readFrom (s .book) (suc (length (s .book))) 0 (s .before)) s && allRight ss
 
-samples-right : allRight samples ≡ true
-unfolding samples row letters long allRight right
-samples-right = refl
+-- A record: 1 for a missing kind, 2, 1 for a short body.
+record-right : allRight (
+    row [] (1 ∷ 97 ∷ []) 1 2  -- the kind is missing
+    ∷ row [] (1 ∷ 97 ∷ 2 ∷ 98 ∷ []) 1 2  -- the body is short
+    ∷ row [] (1 ∷ 97 ∷ 69 ∷ []) 2 2  -- the kind is above 44h, and 2 comes before 1 for a short body
+    ∷ row [] (1 ∷ 97 ∷ 68 ∷ []) 1 2  -- 44h is a kind
+    ∷ []) ≡ true
+unfolding row allRight right
+record-right = refl
+
+-- After 00h: 3, 6.
+closed-right : allRight (
+    row [] (1 ∷ 97 ∷ 0 ∷ 7 ∷ []) 3 3  -- bytes after 00h
+    ∷ row [] (0 ∷ 0 ∷ []) 3 1  -- 3 comes before 6
+    ∷ row [] (0 ∷ []) 6 0  -- no token
+    ∷ []) ≡ true
+unfolding row allRight right
+closed-right = refl
+
+-- 4: a repeat, before what follows it.
+repeat-right : allRight (row [] (1 ∷ 97 ∷ 1 ∷ 97 ∷ []) 4 2 ∷ row (letters 255) (1 ∷ 97 ∷ 0 ∷ []) 4 0 ∷ []) ≡ true
+unfolding row letters allRight right
+repeat-right = refl
+
+-- 5: token 257; 256 pass.
+tokens-right : allRight (row (letters 256) (1 ∷ 98 ∷ 0 ∷ []) 5 0 ∷ row (letters 256) (0 ∷ 7 ∷ []) 3 1 ∷ []) ≡ true
+unfolding row letters allRight right
+tokens-right = refl
+
+-- 5: body byte 16,385; 16,384 pass.
+bodies-right : allRight (
+    row (long 16) (1 ∷ 98 ∷ 0 ∷ []) 5 0 ∷ row (replicate 1023 97 ∷ long 15) (1 ∷ 98 ∷ 69 ∷ []) 2 2 ∷ []) ≡ true
+unfolding row long allRight right
+bodies-right = refl
+
+-- 5 comes before 4, and 1 for a short body before 5.
+limits-first : allRight (row (letters 300) (1 ∷ 97 ∷ 0 ∷ []) 5 0 ∷ row (letters 300) (2 ∷ 97 ∷ []) 1 0 ∷ []) ≡ true
+unfolding row letters allRight right
+limits-first = refl

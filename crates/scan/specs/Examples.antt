@@ -1,5 +1,5 @@
--- Samples of states at the edges of their ranges, as one table: each range holds here and does not one further. And of starting, and
--- of steps that are refused or done.
+-- Samples of states at the edges of their ranges, a table for each: the range holds here and does not one further. And of starting,
+-- and of steps that are refused or done.
 use Prim.Native.Nat.{ℕ, zero, suc, _+_}
 use mathlib.Core.Path.{_≡_, refl}
 use mathlib.Core.Bool.{Bool, true, false, _&&_}
@@ -8,7 +8,7 @@ use mathlib.Core.Option.{some}
 use lib.ListN.{replicate}
 use Rattle.rules.specs.Rules.{Stretch}
 use Rattle.book.specs.Book.{accepted, refused as unstarted}
-use Rattle.trie.specs.Tables.{Tables}
+use Rattle.tables.specs.Tables.{Tables}
 use Rattle.scan.specs.declared.Scan.{Scan}
 use Rattle.scan.specs.State.{laid, inRange}
 use Rattle.scan.specs.Start.{started, start}
@@ -58,31 +58,66 @@ two : List (Stretch ℕ)
 unfolding stretch
 two = stretch 0 20 20 ∷ stretch 20 24 4 ∷ []
 
-samples : List Sample
-unfolding row two stretch
-samples =
-    row 30 20 21 25 0 0 two false 0 true
-    ∷ row 30 20 0 25 0 0 [] false 0 false  -- the node count
+allRight : List Sample → Bool
+allRight [] = true
+allRight (s ∷ ss) = agree (inRange chain (s .state)) (s .ranged) && allRight ss
+
+-- The node count.
+count-right : allRight (
+    row 30 20 0 25 0 0 [] false 0 false
     ∷ row 30 20 1 25 0 0 [] false 0 true
     ∷ row 30 20 16385 25 0 0 [] false 0 true
     ∷ row 30 20 16386 25 0 0 [] false 0 false
-    ∷ row 16777216 20 21 25 0 0 [] false 0 true  -- N
-    ∷ row 16777217 20 21 25 0 0 [] false 0 false
-    ∷ row 30 0 21 25 0 0 [] false 0 false  -- S
+    ∷ []) ≡ true
+unfolding row chain count allRight
+count-right = refl
+
+-- N.
+image-right : allRight (
+    row 16777216 20 21 25 0 0 [] false 0 true ∷ row 16777217 20 21 25 0 0 [] false 0 false ∷ []) ≡ true
+unfolding row chain count allRight
+image-right = refl
+
+-- S.
+shortest-right : allRight (
+    row 30 0 21 25 0 0 [] false 0 false
     ∷ row 30 1 21 25 0 0 [] false 0 true
     ∷ row 30 1024 21 25 0 0 [] false 0 true
     ∷ row 30 1025 21 25 0 0 [] false 0 false
-    ∷ row 30 20 3 25 2 2 [] false 0 true  -- the node is below the count and d deep
+    ∷ []) ≡ true
+unfolding row chain count allRight
+shortest-right = refl
+
+-- The node is below the count and d deep.
+node-right : allRight (
+    row 30 20 3 25 2 2 [] false 0 true
     ∷ row 30 20 2 25 2 2 [] false 0 false
     ∷ row 30 20 21 25 2 1 [] false 0 false
     ∷ row 30 20 21 25 2 3 [] false 0 false
-    ∷ row 30 20 21 2 2 2 [] false 0 true  -- d ≤ b ≤ N + 1,024
+    ∷ []) ≡ true
+unfolding row chain count allRight
+node-right = refl
+
+-- d ≤ b ≤ N + 1,024.
+boundary-right : allRight (
+    row 30 20 21 2 2 2 [] false 0 true
     ∷ row 30 20 21 1 2 2 [] false 0 false
     ∷ row 30 20 21 1054 0 0 [] false 0 true
     ∷ row 30 20 21 1055 0 0 [] false 0 false
-    ∷ row 30 20 21 25 0 0 [] false 1000000000 true  -- bytes supplied
-    ∷ row 30 20 21 25 0 0 [] false 1000000001 false
-    ∷ row 24 20 21 25 0 0 two false 0 true  -- stretches: within the image
+    ∷ []) ≡ true
+unfolding row chain count allRight
+boundary-right = refl
+
+-- Bytes supplied.
+supplied-right : allRight (
+    row 30 20 21 25 0 0 [] false 1000000000 true ∷ row 30 20 21 25 0 0 [] false 1000000001 false ∷ []) ≡ true
+unfolding row chain count allRight
+supplied-right = refl
+
+-- Stretches.
+remembered-right : allRight (
+    row 30 20 21 25 0 0 two false 0 true
+    ∷ row 24 20 21 25 0 0 two false 0 true  -- within the image
     ∷ row 23 20 21 25 0 0 two false 0 false
     ∷ row 30 20 21 25 0 0 (stretch 0 20 20 ∷ stretch 19 24 5 ∷ []) false 0 false  -- disjoint
     ∷ row 30 20 21 25 0 0 (stretch 20 24 4 ∷ stretch 0 20 20 ∷ []) false 0 false  -- rising
@@ -92,22 +127,28 @@ samples =
     ∷ row 30 20 21 24 0 0 (stretch 20 24 4 ∷ []) false 0 false  -- r < b
     ∷ row 30 20 21 26 0 0 (stretch 20 24 4 ∷ []) false 0 false  -- kept by rule 6
     ∷ row 30 20 21 26 0 0 (stretch 16 24 8 ∷ []) false 0 true
-    ∷ row 30 20 21 25 0 0 (stretch 0 0 0 ∷ stretch 20 24 4 ∷ []) false 0 false  -- no zeros before a slot in use
-    ∷ row 30 20 21 25 0 0 (stretch 0 0 1 ∷ []) false 0 false  -- a slot is in use unless it is all zeros
-    ∷ row 30 20 21 25 0 0 two true 0 true  -- a byte is due: the rules fetch place 24,
-    ∷ row 30 20 21 25 1 1 two true 0 false  -- remember place 23,
-    ∷ row 30 20 21 31 0 0 [] true 0 false  -- are done,
-    ∷ row 30 20 21 25 20 20 [] true 0 false  -- have no child,
-    ∷ row 30 20 21 2 2 2 [] true 0 false  -- are at the image's start
-    ∷ []
+    ∷ []) ≡ true
+unfolding row two stretch chain count allRight
+remembered-right = refl
 
-allRight : List Sample → Bool
-allRight [] = true
-allRight (s ∷ ss) = agree (inRange chain (s .state)) (s .ranged) && allRight ss
+-- No zeros before a slot in use, and a slot is in use unless it is all zeros.
+slots-right : allRight (
+    row 30 20 21 25 0 0 (stretch 0 0 0 ∷ stretch 20 24 4 ∷ []) false 0 false
+    ∷ row 30 20 21 25 0 0 (stretch 0 0 1 ∷ []) false 0 false
+    ∷ []) ≡ true
+unfolding row stretch chain count allRight
+slots-right = refl
 
-samples-right : allRight samples ≡ true
-unfolding samples row two stretch chain count allRight
-samples-right = refl
+-- A byte is due: the rules fetch place 24, remember place 23, are done, have no child, are at the image's start.
+due-right : allRight (
+    row 30 20 21 25 0 0 two true 0 true
+    ∷ row 30 20 21 25 1 1 two true 0 false
+    ∷ row 30 20 21 31 0 0 [] true 0 false
+    ∷ row 30 20 21 25 20 20 [] true 0 false
+    ∷ row 30 20 21 2 2 2 [] true 0 false
+    ∷ []) ≡ true
+unfolding row two stretch chain count allRight
+due-right = refl
 
 -- Starting: 8 comes above the limit.
 start-at-limit : start 16777216 20 21 ≡ accepted (started 16777216 20 21)
