@@ -1,7 +1,10 @@
 -- `own_sound` meets its contract, test by test.
 use native.Mathlib.Omega.{arith}
+use mathlib.Core.Path.{_≡_, refl}
+use mathlib.Core.Bool.{Bool, true, false, _&&_}
 use borrow.Author.Tests.{not-true, not-false, le-leb, lt-leb}
 use borrow.Author.Needs.{needs}
+use lib.Dec.{leb}
 use Rattle.tables.specs.Broken.{maxNumber}
 use Rattle.trie.proofs.breaks.own_sound.Statement.{statement}
 use Rattle.trie.proofs.breaks.own_sound.Tie as tie
@@ -9,8 +12,15 @@ use Rattle.trie.proofs.breaks.own_sound.Tie as tie
 returns : tie.Need-returns
 returns c = rw (← c .before .wide .ensures, lt-leb (c .before .wide .result) maxNumber (omega (arith, c .if1 .taken)))
 
+-- a link that is not sound is enough, whatever the token number
+either : (a : Bool) → false ≡ (a && false)
+either true = refl
+either false = refl
+
 returns-2 : tie.Need-returns-2
-returns-2 c = rw (← c .before .before .before .before .before .wide .ensures, le-leb (c .before .before .before .before .before .wide .result) maxNumber (omega (arith, c .before .before .before .before .if1 .left)), ← c .before .before .wide2 .ensures, ← c .before .link-sound .ensures, not-true (c .before .link-sound .result) (c .if2 .taken))
+returns-2 c =
+    rw (← c .before .before .before .before .before .wide .ensures, ← c .before .before .wide2 .ensures, ← c .before .link-sound .ensures, not-true (c .before .link-sound .result) (c .if2 .taken))
+    (either (leb (c .before .before .before .before .before .wide .result) maxNumber))
 
 returns-3 : tie.Need-returns-3
 returns-3 c = rw (← c .before .before .before .before .before .before .before .before .before .before .wide .ensures, le-leb (c .before .before .before .before .before .before .before .before .before .before .wide .result) maxNumber (omega (arith, c .before .before .before .before .before .before .before .before .before .if1 .left)), ← c .before .before .before .before .before .before .before .wide2 .ensures, ← c .before .before .before .before .before .before .link-sound .ensures, not-false (c .before .before .before .before .before .before .link-sound .result) (c .before .before .before .before .before .if2 .left), ← c .before .before .before .wide3 .ensures, ← c .before .wide4 .ensures) (c .link-sound2 .ensures)
