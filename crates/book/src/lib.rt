@@ -10,7 +10,7 @@ ghost use mathlib.Core.List.{List};
 ghost use Prim.Native.Nat.{ℕ, _<_};
 ghost use lib.ListN.{length};
 ghost use Rattle.book.specs.Book.{wholeAt, closed, readBook, summary, placeIn};
-ghost use Rattle.book.specs.Answers.{Amounts, verdictOf, placeOf};
+ghost use Rattle.book.specs.Answers.{Amounts, refusalOf, verdictOf, placeOf};
 
 // The limits belong to the book itself.
 pub struct Book;
@@ -33,6 +33,33 @@ pub enum Refusal {
     Repeat(usize),
     OverLimits(usize),
     NoToken,
+}
+
+// A refusal as document 01's table has it: its number and the value that is returned; both 0 where there is none.
+pub struct Numbered {
+    pub number: usize,
+    pub value: usize,
+}
+
+impl Refusal {
+    pub fn numbered(self) -> Numbered
+        ensures { λ r. ⌜ (r .number ≡ refusalOf self .0) × (r .value ≡ refusalOf self .1) ⌝ }
+    {
+        match self {
+            Refusal::Unfinished(at) => row(1, at),
+            Refusal::UnknownKind(at) => row(2, at),
+            Refusal::Trailing(at) => row(3, at),
+            Refusal::Repeat(at) => row(4, at),
+            Refusal::OverLimits(at) => row(5, at),
+            Refusal::NoToken => row(6, 0),
+        }
+    }
+}
+
+fn row(number: usize, value: usize) -> Numbered
+    ensures { λ r. ⌜ (r .number ≡ number) × (r .value ≡ value) ⌝ }
+{
+    Numbered { number, value }
 }
 
 // How many tokens there are, all body bytes, S and D.
