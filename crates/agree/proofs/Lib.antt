@@ -1,2 +1,2 @@
 -- The loops over plain lists and numbers, which the functions' proofs cite.
-pub mod Searching
+pub mod Agree

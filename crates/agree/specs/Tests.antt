@@ -3,7 +3,7 @@ use Prim.Native.Nat.{ℕ, _-_}
 use mathlib.Core.Bool.{Bool}
 use mathlib.Core.List.{List}
 use lib.ListN.{length}
-use Rattle.rules.specs.Lists.{any, every, least}
+use Rattle.rules.specs.Lists.{anyOf, every, least}
 use Rattle.rules.specs.Tokens.{fromRight, agrees}
 
 -- Token w, moved s to the right, agrees with each matched byte.
@@ -16,4 +16,4 @@ byteTest d x w s = agrees w s d x
 
 -- The smallest shift below S for which one of the tokens passes, or S.
 abbrev pub leastOf : (List ℕ → ℕ → Bool) → List (List ℕ) → ℕ → ℕ
-leastOf p tokens S = least (λ s. any (λ w. p w s) tokens) 1 (S - 1)
+leastOf p tokens S = least (λ s. anyOf (λ w. p w s) tokens) 1 (S - 1)

@@ -1,3 +1,3 @@
--- The loops of `read` (Reader) and of `token` (Finder) over plain lists, which their proofs cite.
-pub mod Reader
-pub mod Finder
+-- The loops of `read` and of `token` over plain lists, which their proofs cite.
+pub mod ReadLoop
+pub mod TokenLoop

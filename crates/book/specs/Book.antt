@@ -4,7 +4,7 @@ use mathlib.Core.Bool.{Bool, true, false, _&&_, _||_}
 use mathlib.Core.List.{List, [], _∷_, _++_}
 use lib.Dec.{leb, ltb, eqb}
 use lib.ListN.{length, getD, take, drop}
-use Rattle.rules.specs.Lists.{same, any}
+use Rattle.rules.specs.Lists.{same, anyOf}
 use Rattle.rules.specs.Tokens.{total, shortestOf, longestOf}
 
 -- The limits of a book: tokens, body bytes, and the length of an image that is swept with it.
@@ -71,7 +71,7 @@ module _ (book : List ℕ) (at : ℕ) where
 
   -- Refusal 4: the body equals an earlier one.
   abbrev pub repeats : List (List ℕ) → Bool
-  repeats tokens = any (same bodyAt) tokens
+  repeats tokens = anyOf (same bodyAt) tokens
 
   -- Refusal 3: bytes follow 00h.
   abbrev pub trailing : Bool

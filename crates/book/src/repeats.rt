@@ -5,14 +5,14 @@ ghost use mathlib.Core.Path.{_≡_};
 ghost use mathlib.Core.List.{List};
 ghost use Prim.Native.Nat.{ℕ, _+_, _≤_};
 ghost use lib.ListN.{length, take, drop};
-ghost use Rattle.rules.specs.Lists.{any, same};
+ghost use Rattle.rules.specs.Lists.{anyOf, same};
 ghost use Rattle.book.specs.Book.{maxBody};
 ghost use Rattle.book.specs.Laws.Records.{Upto};
 
 // Whether the body of the record at `at`, of `size` bytes, equals an earlier one. It is compared from a copy.
 pub fn repeated(book: &[u8], at: usize, size: usize) -> bool
     requires { ⌜ (at + 1 + size ≤ length (now book)) × (size ≤ maxBody) ⌝ }
-    ensures { λ r. ⌜ ((ts : List (List ℕ)) → Upto (now (book .entry)) at ts → r ≡ any (same (take size (drop (at + 1) (now (book .entry))))) ts) ⌝ }
+    ensures { λ r. ⌜ ((ts : List (List ℕ)) → Upto (now (book .entry)) at ts → r ≡ anyOf (same (take size (drop (at + 1) (now (book .entry))))) ts) ⌝ }
 {
     let start = at + 1;
     let end = start + size;
@@ -37,7 +37,7 @@ fn copied(body: &[u8]) -> [u8; Book::BODY]
 // Whether some record before place `at` has this body.
 fn earlier(book: &[u8], at: usize, body: &[u8]) -> bool
     requires { ⌜ at ≤ length (now book) ⌝ }
-    ensures { λ r. ⌜ ((ts : List (List ℕ)) → Upto (now (book .entry)) at ts → r ≡ any (same (now (body .entry))) ts) ⌝ }
+    ensures { λ r. ⌜ ((ts : List (List ℕ)) → Upto (now (book .entry)) at ts → r ≡ anyOf (same (now (body .entry))) ts) ⌝ }
 {
     let mut p = 0;
     while p < at {

@@ -1,17 +1,17 @@
--- What the functions' proofs cite, over plain lists and numbers: stretches (Using to Sifting), a round's way down (Children to Marking),
--- rule 5 (Passing, Keeping), rounds (Skimming to Looping), the whole call (Starting, Answering).
-mod Using
-mod Counting
-mod Sifting
-mod Children
-mod Steps
-mod Descending
-mod Marking
-mod Passing
-mod Keeping
-mod Skimming
-mod Turning
-mod Rounding
-mod Looping
-mod Starting
-mod Answering
+-- What the functions' proofs cite, over plain lists and numbers. A module has the name of the source module that it serves and of what it
+-- is about there; `SweepImage` serves `lib.rt`.
+mod SpansUsed
+mod SpansLoose
+mod SpansSift
+mod WalkChildren
+mod WalkStep
+mod WalkDescend
+mod WalkMark
+mod Rule5Tokens
+mod CachesEntries
+mod SkimRounds
+mod TurnEnd
+mod TurnAttempt
+mod RoundsLoop
+mod RoundsSweep
+mod SweepImage

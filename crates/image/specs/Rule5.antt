@@ -5,7 +5,7 @@ use mathlib.Core.Bool.{false}
 use mathlib.Core.List.{List, [], _∷_}
 use mathlib.Core.Option.{Option, some, none}
 use lib.ListN.{length, getD}
-use Rattle.rules.specs.Lists.{any}
+use Rattle.rules.specs.Lists.{anyOf}
 use Rattle.rules.specs.Tokens.{ends, nodeShift, byteShift, shiftOf, shortestOf}
 use Rattle.book.specs.Book.{Reading, accepted, refused, readBook}
 use Rattle.tables.specs.Tables.{nodes}
@@ -51,4 +51,4 @@ pub record ByByte (book : List ℕ) (shortest : ℕ) (cache : List ℕ) : Type 0
 pub record BySkip (book : List ℕ) (shortest : ℕ) (cache : List ℕ) : Type 0 where
   pub size : length cache ≡ 256
   pub right : (x : ℕ) → x < 256 → (getD cache x 0 ≡ 0 → ⊥)
-      → (any (ends (x ∷ [])) (tokensOf book) ≡ false) × (getD cache x 0 ≡ shiftOf (tokensOf book) shortest [] (some x))
+      → (anyOf (ends (x ∷ [])) (tokensOf book) ≡ false) × (getD cache x 0 ≡ shiftOf (tokensOf book) shortest [] (some x))

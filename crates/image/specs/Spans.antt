@@ -2,7 +2,7 @@
 use Prim.Native.Nat.{ℕ, _≤_}
 use mathlib.Core.List.{List, [], _∷_, _++_, map}
 use lib.ListN.{take}
-use Rattle.rules.specs.Lists.{filter}
+use Rattle.rules.specs.Lists.{select}
 use Rattle.rules.specs.Rules.{Stretch, leftOver, cut, kept}
 use Rattle.rules.specs.Laws.All.{All}
 use Rattle.rules.specs.Laws.Remember.{Lies}
@@ -27,7 +27,7 @@ inUse f = map placed (take (f .used) (f .spans))
 -- Rules 4 and 6: what is remembered after a round that matched from place `from` up to b, when the boundary moves to `next`.
 abbrev pub renewed : ℕ → ℕ → ℕ → List Places → List Places
 renewed from b next ss =
-    filter (kept next) (leftOver from ss ++ (record { left = cut from (leftOver from ss); right = b; node = tt } ∷ []))
+    select (kept next) (leftOver from ss ++ (record { left = cut from (leftOver from ss); right = b; node = tt } ∷ []))
 
 -- What the code asks of remembered stretches at boundary b.
 pub record Fits (b : ℕ) (f : Spans) : Type 0 where

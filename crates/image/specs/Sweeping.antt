@@ -5,7 +5,7 @@ use mathlib.Core.Bool.{Bool, false}
 use mathlib.Core.List.{List, [], _∷_, _++_}
 use mathlib.Core.Option.{some}
 use lib.ListN.{length, getD}
-use Rattle.rules.specs.Lists.{any}
+use Rattle.rules.specs.Lists.{anyOf}
 use Rattle.rules.specs.Rules.{Stretch}
 use Rattle.rules.specs.Tokens.{ends, ofTokens, shiftOf, shortestOf, longestOf}
 use Rattle.book.specs.Book.{readBook, accepted, maxImage, maxBody}
@@ -71,7 +71,7 @@ lowestOf b depth (Byte x) = b - 1 - depth
 
 -- If the round ended at its first byte, the root has no child for it, and the shift is that byte's.
 pub record Learns (book : List ℕ) (shortest depth : ℕ) (stop : Stop) (by : ℕ) : Type 0 where
-  pub none : (x : ℕ) → depth ≡ 0 → closingOf stop ≡ some x → any (ends (x ∷ [])) (tokensOf book) ≡ false
+  pub none : (x : ℕ) → depth ≡ 0 → closingOf stop ≡ some x → anyOf (ends (x ∷ [])) (tokensOf book) ≡ false
   pub right : (x : ℕ) → depth ≡ 0 → closingOf stop ≡ some x → by ≡ shiftOf (tokensOf book) shortest [] (some x)
 
 module _ (book image : List ℕ) where

@@ -5,7 +5,7 @@ use mathlib.Core.Bool.{true, false}
 use mathlib.Core.List.{List, [], _++_, map}
 use lib.Dec.{leb, ltb}
 use lib.ListN.{length, take, drop}
-use Rattle.rules.specs.Lists.{filter}
+use Rattle.rules.specs.Lists.{select}
 use Rattle.rules.specs.Tokens.{longestOf}
 use Rattle.rules.specs.Sweep.{further, hitsOf}
 
@@ -30,10 +30,10 @@ between from to image = take (to - from) (drop from image)
 
 -- the hits that end past `at`, and those that end at `to` at most
 abbrev pub past : ℕ → List (ℕ × ℕ) → List (ℕ × ℕ)
-past at = filter (λ h. ltb at (h .0))
+past at = select (λ h. ltb at (h .0))
 
 abbrev pub upTo : ℕ → List (ℕ × ℕ) → List (ℕ × ℕ)
-upTo to = filter (λ h. leb (h .0) to)
+upTo to = select (λ h. leb (h .0) to)
 
 module _ (tokens : List (List ℕ)) (image : List ℕ) where
   -- where the part that goes on from `at` begins and ends

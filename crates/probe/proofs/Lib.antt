@@ -1,2 +1,2 @@
--- What the functions' proofs share.
-pub mod Lent
+-- What the proofs of `states` and of the calls that are lent a state share.
+pub mod StatesLent

@@ -5,14 +5,14 @@ use mathlib.Core.List.{List, [], _∷_}
 use lib.Dec.{eqb}
 
 -- the elements that pass
-abbrev pub filter {ℓ} : {A : Type ℓ} → (A → Bool) → List A → List A
-filter p [] = []
-filter p (a ∷ rest) = elim (p a) [ true ↦ a ∷ filter p rest | false ↦ filter p rest ]
+abbrev pub select {ℓ} : {A : Type ℓ} → (A → Bool) → List A → List A
+select p [] = []
+select p (a ∷ rest) = elim (p a) [ true ↦ a ∷ select p rest | false ↦ select p rest ]
 
 -- some element passes
-abbrev pub any {ℓ} : {A : Type ℓ} → (A → Bool) → List A → Bool
-any p [] = false
-any p (a ∷ rest) = p a || any p rest
+abbrev pub anyOf {ℓ} : {A : Type ℓ} → (A → Bool) → List A → Bool
+anyOf p [] = false
+anyOf p (a ∷ rest) = p a || anyOf p rest
 
 -- each number below n passes
 abbrev pub every : ℕ → (ℕ → Bool) → Bool

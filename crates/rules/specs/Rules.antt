@@ -5,7 +5,7 @@ use mathlib.Core.Bool.{Bool, true, false, _&&_, _||_}
 use mathlib.Core.List.{List, [], _∷_, _++_}
 use mathlib.Core.Option.{Option, some, none}
 use lib.Dec.{leb, ltb, eqb}
-use Rattle.rules.specs.Lists.{filter}
+use Rattle.rules.specs.Lists.{select}
 
 -- What the rules ask of the nodes: `token v` is the number of the token that ends at v, or 0; `byteAt v k` the byte of
 -- v's ending with k others to its right; `ancestor v k` the node of the last k bytes of v's ending; `shift` is rule 5.
@@ -73,7 +73,7 @@ module _ {E : Type 0} where
 
   -- Rule 4: the stretches that are not wholly inside the matched part, which begins at `from`.
   abbrev pub leftOver : ℕ → List (Stretch E) → List (Stretch E)
-  leftOver from = filter (λ s. ltb (s .left) from)
+  leftOver from = select (λ s. ltb (s .left) from)
 
   -- Rule 4: where the new stretch begins, at `from` or at the right edge of the nearest stretch left over.
   abbrev pub cut : ℕ → List (Stretch E) → ℕ
@@ -124,7 +124,7 @@ module _ {E : Type 0} (tree : Tree E) where
     boundary = c .boundary + s;
     node = tree .root;
     depth = 0;
-    stretches = filter (kept (c .boundary + s)) (ended c);
+    stretches = select (kept (c .boundary + s)) (ended c);
   }
 
   -- Rules 4 to 6: a round ends, with the byte that did not match (document 01: closing byte), if there is one.
@@ -138,13 +138,13 @@ module _ {E : Type 0} (tree : Tree E) where
   taken c x none = endRound c (some x)
   taken c x (some v) = record { events = hitAt (c .boundary) (tree .token v); config = deeper c v }
 
-  abbrev pub take : Config E → ℕ → Step E
-  take c x = taken c x (tree .child (c .node) x)
+  abbrev pub takeByte : Config E → ℕ → Step E
+  takeByte c x = taken c x (tree .child (c .node) x)
 
   -- Rule 2: the argument is what is remembered of the place.
   abbrev pub look : Config E → Option ℕ → Next E
   look c none = wants (place c)
-  look c (some x) = goes (after (recalled (place c)) (take c x))
+  look c (some x) = goes (after (recalled (place c)) (takeByte c x))
 
   -- Rules 1 and 2, for an image of n bytes.
   abbrev pub next : ℕ → Config E → Next E
@@ -160,7 +160,7 @@ module _ {E : Type 0} (tree : Tree E) where
   -- What happens from a configuration on, by what comes next; `more` is what happens after that.
   abbrev pub follow : (ℕ → ℕ → ℕ) → (ℕ → Config E → List (Event E)) → ℕ → Config E → Next E → List (Event E)
   follow ask more k c finished = done ∷ []
-  follow ask more k c (wants at) = let s = take c (ask k at) in fetched at ∷ (s .events ++ more (k + 1) (s .config))
+  follow ask more k c (wants at) = let s = takeByte c (ask k at) in fetched at ∷ (s .events ++ more (k + 1) (s .config))
   follow ask more k c (goes s) = s .events ++ more k (s .config)
 
   -- All that happens from a configuration on, in at most `fuel` steps. `ask k at` is the byte that place `at` gets as the

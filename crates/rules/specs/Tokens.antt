@@ -5,7 +5,7 @@ use mathlib.Core.List.{List, [], _∷_}
 use mathlib.Core.Option.{Option, some, none}
 use lib.Dec.{leb, ltb, eqb}
 use lib.ListN.{length, getD, drop}
-use Rattle.rules.specs.Lists.{any, every, least, same, numberFrom}
+use Rattle.rules.specs.Lists.{anyOf, every, least, same, numberFrom}
 use Rattle.rules.specs.Rules.{Tree}
 
 -- all body bytes
@@ -40,12 +40,12 @@ agrees t s k x = leb (length t) (k + s) || eqb (fromRight t (k + s)) x
 module _ (tokens : List (List ℕ)) where
   -- Rule 5: the good-suffix shift (document 01: node shift) of the matched bytes u, cut at S.
   abbrev pub nodeShift : ℕ → List ℕ → ℕ
-  nodeShift shortest u = least (λ s. any (λ t. every (length u) (λ k. agrees t s k (fromRight u k))) tokens) 1 (shortest - 1)
+  nodeShift shortest u = least (λ s. anyOf (λ t. every (length u) (λ k. agrees t s k (fromRight u k))) tokens) 1 (shortest - 1)
 
   -- Rule 5: the bad-character shift (document 01: byte shift) of the byte that d matched ones lie right of, cut at S.
   abbrev pub byteShift : ℕ → ℕ → Option ℕ → ℕ
   byteShift shortest d none = 1
-  byteShift shortest d (some x) = least (λ s. any (λ t. agrees t s d x) tokens) 1 (shortest - 1)
+  byteShift shortest d (some x) = least (λ s. anyOf (λ t. agrees t s d x) tokens) 1 (shortest - 1)
 
   -- Rule 5: the greater of the two.
   abbrev pub shiftOf : ℕ → List ℕ → Option ℕ → ℕ
@@ -53,13 +53,13 @@ module _ (tokens : List (List ℕ)) where
 
   -- the ending with one byte more, if a token has it
   abbrev pub grown : List ℕ → ℕ → Option (List ℕ)
-  grown u x = elim (any (ends (x ∷ u)) tokens) [ true ↦ some (x ∷ u) | false ↦ none ]
+  grown u x = elim (anyOf (ends (x ∷ u)) tokens) [ true ↦ some (x ∷ u) | false ↦ none ]
 
   abbrev pub ofTokens : ℕ → Tree (List ℕ)
   ofTokens shortest = record {
     root = [];
     child = grown;
-    leaf = λ u. not (any (λ t. ltb (length u) (length t) && ends u t) tokens);
+    leaf = λ u. not (anyOf (λ t. ltb (length u) (length t) && ends u t) tokens);
     token = λ u. numberFrom 1 u tokens;
     byteAt = fromRight;
     ancestor = λ u k. drop (length u - k) u;

@@ -3,7 +3,7 @@ use Prim.Native.Nat.{ℕ, zero, suc, _+_, _*_, min}
 use mathlib.Core.Bool.{Bool, true, false, not}
 use mathlib.Core.List.{List, [], _∷_}
 use mathlib.Core.Option.{Option, some, none}
-use Rattle.rules.specs.Rules.{Config, Event, fetched, recalled, hit, shifted, done, finished, wants, goes, take, next}
+use Rattle.rules.specs.Rules.{Config, Event, fetched, recalled, hit, shifted, done, finished, wants, goes, takeByte, next}
 use Rattle.book.specs.Book.{maxBody}
 use Rattle.tables.specs.Tables.{Tables}
 use Rattle.tables.specs.Broken.{broken}
@@ -112,7 +112,7 @@ abbrev pub supply : Tables → Scan → ℕ → Stepped
 supply t s x =
     elim (judged t s true) [
       | some a ↦ record { state = s; answer = a }
-      | none ↦ (let w = take (treeOf t s) (configOf s) x in
+      | none ↦ (let w = takeByte (treeOf t s) (configOf s) x in
           elim (hitIn (w .events)) [
             | noHit ↦ settle t (counted s) (enough s) (w .config)
             | hitOf e i ↦ record { state = moved (counted s) (w .config) false; answer = found e i }

@@ -6,7 +6,7 @@ use mathlib.Core.List.{List, [], _∷_}
 use mathlib.Core.Option.{Option, some, none}
 use lib.Dec.{leb, ltb}
 use lib.ListN.{length, set}
-use Rattle.rules.specs.Lists.{filter}
+use Rattle.rules.specs.Lists.{select}
 use Rattle.rules.specs.Rules.{Stretch, kept, recall, ended}
 use Rattle.rules.specs.Laws.All.{All}
 use Rattle.tables.specs.Walks.{depth, ofTables}
@@ -70,5 +70,5 @@ pub record Ends (parent : List ℕ) (node d boundary next : ℕ) : Type 0 where
 -- Rules 4 and 6 ask nothing of the other tables, nor of the node count and S.
 abbrev pub rememberBy : List ℕ → List (Stretch ℕ) → ℕ → ℕ → ℕ → ℕ → List Slot
 rememberBy parent ms node d boundary next =
-    laid maxStretches (filter (kept next) (ended (ofTables (paths parent []) 0 0)
+    laid maxStretches (select (kept next) (ended (ofTables (paths parent []) 0 0)
     (record { boundary = boundary; node = node; depth = d; stretches = ms })))

@@ -4,7 +4,7 @@ use mathlib.Core.Path.{_≡_}
 use mathlib.Core.Bool.{true}
 use mathlib.Core.List.{List}
 use mathlib.Core.Option.{none}
-use Rattle.rules.specs.Rules.{Step, finished, wants, goes, place, recalled, endRound, after, take, next}
+use Rattle.rules.specs.Rules.{Step, finished, wants, goes, place, recalled, endRound, after, takeByte, next}
 use Rattle.tables.specs.Tables.{Tables}
 use Rattle.trie.specs.Answers.{tables}
 use Rattle.scan.specs.declared.Scan.{Scan}
@@ -51,4 +51,4 @@ Chosen t s (Wants at) = next (treeOf t s) (s .image) (configOf s) ≡ wants at
 Chosen t s End = next (treeOf t s) (s .image) (configOf s) ≡ goes (endRound (treeOf t s) (configOf s) none)
 Chosen t s (Take x) =
     let c = configOf s in
-    next (treeOf t s) (s .image) c ≡ goes (after (recalled (place c)) (take (treeOf t s) c x))
+    next (treeOf t s) (s .image) c ≡ goes (after (recalled (place c)) (takeByte (treeOf t s) c x))

@@ -18,7 +18,7 @@ use judge::judge;
 use ranges::SUPPLIED;
 use steps::Found;
 use steps::settle;
-use steps::take;
+use steps::take_byte;
 
 // A remembered stretch: the places from left up to right, right not included; its bytes are the ending of its node. A slot that
 // is not in use holds zeros.
@@ -167,7 +167,7 @@ impl Scan {
             },
             Judged::Admitted => {
                 let scan = count_byte(self);
-                let taken = take(scan, parent, label, token, first, next, byte);
+                let taken = take_byte(scan, parent, label, token, first, next, byte);
                 let state = taken.state;
                 let found = taken.found;
                 match found {

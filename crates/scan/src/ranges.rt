@@ -13,7 +13,7 @@ ghost use mathlib.Core.Bool.{_&&_};
 ghost use mathlib.Core.List.{List, []};
 ghost use lib.Dec.{leb, ltb, eqb};
 ghost use lib.ListN.{length};
-ghost use Rattle.rules.specs.Lists.{any};
+ghost use Rattle.rules.specs.Lists.{anyOf};
 ghost use Rattle.book.specs.Book.{maxImage};
 ghost use Rattle.tables.specs.Walks.{depth};
 ghost use Rattle.trie.specs.Answers.{tables};
@@ -107,7 +107,7 @@ fn stretches_ok(parent: &[u16], scan: Scan) -> bool
 
 // Whether a place lies in one of the stretches of the slots in use, which come first.
 fn remembered(scan: Scan, at: usize) -> bool
-    ensures { λ r. ⌜ r ≡ any (covers at) (used (scan .stretches)) ⌝ }
+    ensures { λ r. ⌜ r ≡ anyOf (covers at) (used (scan .stretches)) ⌝ }
 {
     let slots = scan.stretches;
     match seek(slots, at) {

@@ -4,7 +4,7 @@ ghost use mathlib.Core.Path.{_≡_};
 ghost use mathlib.Core.Bool.{false};
 ghost use mathlib.Core.List.{List};
 ghost use Prim.Native.Nat.{ℕ};
-ghost use Rattle.rules.specs.Rules.{endRound, take};
+ghost use Rattle.rules.specs.Rules.{endRound, takeByte};
 ghost use Rattle.trie.specs.Answers.{tables};
 ghost use Rattle.scan.specs.State.{configOf, treeOf};
 ghost use Rattle.scan.specs.Calls.{moved, settle, enough};
@@ -75,7 +75,7 @@ pub fn end_round(scan: Scan, parent: &[u16], label: &[u8], token: &[u16], closin
 }
 
 // Rule 3: the round goes to a child, or ends at the byte.
-pub fn take(
+pub fn take_byte(
     scan: Scan,
     parent: &[u16],
     label: &[u8],
@@ -87,7 +87,7 @@ pub fn take(
     requires { ⌜ Steady (tables (now parent) (now label) (now token) (now first) (now next)) scan ⌝ }
     ensures { λ r.
         let t = tables (now (parent .entry)) (now (label .entry)) (now (token .entry)) (now (first .entry)) (now (next .entry)) in
-        ⌜ r ≡ takenBy scan (take (treeOf t scan) (configOf scan) byte) ⌝ }
+        ⌜ r ≡ takenBy scan (takeByte (treeOf t scan) (configOf scan) byte) ⌝ }
 {
     match trie::chain::child(label, first, next, scan.count, scan.node, byte) {
         Child::Absent => Taken {
@@ -169,7 +169,7 @@ pub fn settle(
                 at = end_round(at, parent, label, token, Closing::Nothing);
             }
             Move::Take(x) => {
-                let taken = take(at, parent, label, token, first, next, x);
+                let taken = take_byte(at, parent, label, token, first, next, x);
                 let state = taken.state;
                 let found = taken.found;
                 match found {

@@ -17,7 +17,7 @@ use Rattle.image.specs.Results.{sweptOf}
 use Rattle.image.specs.Rule5.{tokensOf}
 use Rattle.listing.specs.Parts.{maxHits, maxPart, partFrom, partTo, between, past, fromAt, toAt, partAt}
 use Rattle.sweep.specs.Program.{Known, Answered, pairs, held, Listing}
-use Rattle.listing.specs.Laws.Whole.{filter-all}
+use Rattle.listing.specs.Laws.Whole.{select-all}
 use Rattle.listing.specs.Laws.Fits.{part-fits}
 
 -- The hits that end past `at` are all from the first on that does.
@@ -28,7 +28,7 @@ passed-past : (from at : ℕ) (l : List (ℕ × ℕ)) (n : ℕ) → Ordered l �
 passed-past from at [] zero o h f g = refl
 passed-past from at [] (suc n) o h f g = refl
 passed-past from at (a ∷ l) zero o h f g =
-    filter-all (λ h. ltb at (h .0)) (map (further from) (a ∷ l))
+    select-all (λ h. ltb at (h .0)) (map (further from) (a ∷ l))
     (λ x m. let r = Memᴰ·of-map (further from) (a ∷ l) m in lt-ltb at (x .0) (omega (arith, g (omega arith), ap (λ h. h .0) (r .2), later (r .0) (r .1))))
   where
     later : (b : ℕ × ℕ) → List·Memᴰ b (a ∷ l) → a .0 ≤ b .0

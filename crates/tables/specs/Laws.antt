@@ -1,15 +1,15 @@
--- The laws of the tables: what one token more does to them (Growth to Build), that this makes the built ones (Same), and that
--- these stand for exactly the endings of the tokens (Nodes, Sound, Represents); what building gives (Building); and what holds of
--- any tables that refusal 9 does not meet (Unbroken).
-pub mod Growth
+-- The laws of the tables: what they are with tokens inserted (Inserted), what one node more, one token more and all tokens do to their
+-- shape (Shape to TokensAdded), that this makes the built ones (Same), and that these stand for exactly the endings of the tokens (Nodes,
+-- Sound, Represents); what building gives when it made them (Made); and what holds of any tables that refusal 9 does not meet (Unbroken).
+pub mod Inserted
 pub mod Shape
-pub mod Grow
+pub mod NodeAdded
 pub mod Order
-pub mod Insert
-pub mod Build
+pub mod TokenAdded
+pub mod TokensAdded
 pub mod Nodes
 pub mod Same
 pub mod Sound
 pub mod Represents
-pub mod Building
+pub mod Made
 pub mod Unbroken

@@ -5,7 +5,7 @@ use mathlib.Core.Bool.{Bool, true, false}
 use mathlib.Core.List.{List, [], _∷_, _++_, map}
 use lib.Dec.{ltb}
 use lib.ListN.{length, drop}
-use Rattle.rules.specs.Lists.{same, any, numberFrom}
+use Rattle.rules.specs.Lists.{same, anyOf, numberFrom}
 use Rattle.rules.specs.Tokens.{total, shortestOf, longestOf}
 use Rattle.book.specs.Book.{Verdict, accepted, refused, readBook}
 
@@ -26,7 +26,7 @@ endingsOf (x ∷ t) = endingsOf t ++ ((x ∷ t) ∷ [])
 -- `us` behind those seen, each where it first occurs
 abbrev pub noted : List (List ℕ) → List (List ℕ) → List (List ℕ)
 noted seen [] = seen
-noted seen (u ∷ us) = noted (elim (any (same u) seen) [ true ↦ seen | false ↦ seen ++ (u ∷ []) ]) us
+noted seen (u ∷ us) = noted (elim (anyOf (same u) seen) [ true ↦ seen | false ↦ seen ++ (u ∷ []) ]) us
 
 abbrev pub notedTokens : List (List ℕ) → List (List ℕ) → List (List ℕ)
 notedTokens seen [] = seen

@@ -5,7 +5,7 @@ use mathlib.Core.List.{List}
 use lib.Dec.{eqb}
 use lib.ListN.{length, take, set}
 use Rattle.tables.specs.Tables.{Tables, nodes, built, written}
-use Rattle.tables.specs.Laws.Growth.{inserted}
+use Rattle.tables.specs.Laws.Inserted.{inserted}
 use Rattle.tables.specs.Laws.Shape.{Shape}
 
 -- all five have n entries at least

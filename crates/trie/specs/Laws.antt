@@ -5,5 +5,5 @@ pub mod Testing
 pub mod Over
 pub mod InPlace
 pub mod Bodies
-pub mod Fill
+pub mod TokensInPlace
 pub mod Answer

@@ -5,7 +5,7 @@ ghost use Prim.Native.Nat.{ℕ};
 ghost use Rattle.book.specs.Book.{readBook, accepted};
 ghost use Rattle.trie.specs.Answers.{tables};
 ghost use Rattle.trie.specs.InPlace.{filled};
-ghost use Rattle.trie.specs.Laws.Fill.{Fillable};
+ghost use Rattle.trie.specs.Laws.TokensInPlace.{Fillable};
 use crate::insert::insert;
 
 // The root, and then the book's `many` tokens in order. The number of nodes.

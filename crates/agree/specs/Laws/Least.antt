@@ -6,7 +6,7 @@ use native.Mathlib.Omega.{arith}
 use mathlib.Core.Path.{_≡_, refl, sym, _∙_}
 use mathlib.Core.Bool.{Bool, true, false, _||_}
 use mathlib.Core.List.{List, [], _∷_, _++_}
-use Rattle.rules.specs.Lists.{any, least}
+use Rattle.rules.specs.Lists.{anyOf, least}
 use Rattle.rules.specs.Laws.Tests.{least-ge, least-upto, least-same}
 use Rattle.agree.specs.Tests.{leastOf}
 
@@ -32,9 +32,9 @@ least-cut p from (suc f) g = rw (suc-add f g) (go (p from) (least p (from + 1) f
     go true a b e = omega arith
     go false a b e = omega arith
 
-any-snoc : (p : List ℕ → Bool) (ts : List (List ℕ)) (w : List ℕ) → any p (ts ++ (w ∷ [])) ≡ (p w || any p ts)
-any-snoc p [] w = refl
-any-snoc p (t ∷ ts) w = rw (any-snoc p ts w) (go (p t) (p w) (any p ts))
+anyOf-snoc : (p : List ℕ → Bool) (ts : List (List ℕ)) (w : List ℕ) → anyOf p (ts ++ (w ∷ [])) ≡ (p w || anyOf p ts)
+anyOf-snoc p [] w = refl
+anyOf-snoc p (t ∷ ts) w = rw (anyOf-snoc p ts w) (go (p t) (p w) (anyOf p ts))
   where
     go : (a b c : Bool) → (a || (b || c)) ≡ (b || (a || c))
     go true true c = refl
@@ -51,7 +51,7 @@ module _ (p : List ℕ → ℕ → Bool) where
 
   module _ (ts : List (List ℕ)) (S : ℕ) (h : 1 ≤ S) where
     pub least-bounds : (1 ≤ leastOf p ts S) × (leastOf p ts S ≤ S)
-    least-bounds = (least-ge (λ s. any (λ w. p w s) ts) 1 (S - 1), omega (arith, least-upto (λ s. any (λ w. p w s) ts) 1 (S - 1)))
+    least-bounds = (least-ge (λ s. anyOf (λ w. p w s) ts) 1 (S - 1), omega (arith, least-upto (λ s. anyOf (λ w. p w s) ts) 1 (S - 1)))
 
     -- A token more, in front or behind: it is enough to search below the best so far.
     pub least-token : (w : List ℕ) → least (p w) 1 (leastOf p ts S - 1) ≡ leastOf p (w ∷ ts) S
@@ -60,7 +60,7 @@ module _ (p : List ℕ → ℕ → Bool) where
         let bounds = least-bounds in
         let more : b - 1 + (S - b) ≡ S - 1 = omega arith in
         let cut : least (p w) 1 (b - 1) ≡ min (least (p w) 1 (S - 1)) (1 + (b - 1)) = rw more at (least-cut (p w) 1 (b - 1) (S - b)) in
-        omega (arith, cut, least-or (p w) (λ s. any (λ w. p w s) ts) 1 (S - 1))
+        omega (arith, cut, least-or (p w) (λ s. anyOf (λ w. p w s) ts) 1 (S - 1))
 
     pub least-last : (w : List ℕ) → least (p w) 1 (leastOf p ts S - 1) ≡ leastOf p (ts ++ (w ∷ [])) S
-    least-last w = least-token w ∙ sym (least-same _ _ (λ s. any-snoc (λ w. p w s) ts w) 1 (S - 1))
+    least-last w = least-token w ∙ sym (least-same _ _ (λ s. anyOf-snoc (λ w. p w s) ts w) 1 (S - 1))

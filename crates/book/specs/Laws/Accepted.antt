@@ -5,9 +5,9 @@ use mathlib.Core.Path.{_≡_, refl, sym}
 use mathlib.Core.Bool.{false}
 use mathlib.Core.List.{List, [], _∷_, _++_}
 use lib.ListN.{length, getD, length-append}
-use Rattle.rules.specs.Lists.{same, any}
+use Rattle.rules.specs.Lists.{same, anyOf}
 use Rattle.rules.specs.Tokens.{total, shortestOf, longestOf}
-use Rattle.rules.specs.Laws.Tests.{clash, any-in}
+use Rattle.rules.specs.Laws.Tests.{clash, anyOf-in}
 use Rattle.rules.specs.Laws.Endings.{same-refl}
 use Rattle.rules.specs.Laws.Lengths.{shortest-le, longest-ge, shortest-is, longest-is}
 use Rattle.rules.specs.Laws.Setting.{Setting}
@@ -34,7 +34,7 @@ total-snoc [] a = omega arith
 total-snoc (x ∷ l) a = omega (arith, total-snoc l a)
 
 fit-snoc : (tokens : List (List ℕ)) (body : List ℕ) → Fit tokens → (1 ≤ length body) × (length body ≤ maxBody) → length tokens < maxTokens
-    → total tokens + length body ≤ maxBodies → any (same body) tokens ≡ false → Fit (tokens ++ (body ∷ []))
+    → total tokens + length body ≤ maxBodies → anyOf (same body) tokens ≡ false → Fit (tokens ++ (body ∷ []))
 fit-snoc tokens body f b n m new = record {
   each = each-snoc (λ i t. (1 ≤ length t) × (length t ≤ maxBody)) tokens body (f .each) b;
   count = rw length-append (omega arith);
@@ -47,7 +47,7 @@ fit-snoc tokens body f b n m new = record {
 }
   where
     other : (i : ℕ) → i < length tokens → getD tokens i [] ≡ body → ⊥
-    other i i< e = clash (any (same body) tokens) (any-in (same body) tokens [] i i< (rw e (same-refl body))) new
+    other i i< e = clash (anyOf (same body) tokens) (anyOf-in (same body) tokens [] i i< (rw e (same-refl body))) new
 
 module _ (book : List ℕ) (tokens : List (List ℕ)) (read : readBook book ≡ accepted tokens) where
   more : (at : ℕ) (ts : List (List ℕ)) → Taken book at ts → Fit ts → Fit (ts ++ (bodyAt book at ∷ []))

@@ -9,7 +9,7 @@ use borrow.Author.Tests.{lt-leb, lt-ltb, le-ltb, eq-eqb, ne-eqb, leb-true, leb-f
 use lib.Dec.{leb, ltb, eqb}
 use lib.ListN.{length, getD, take, drop, length-append, length-drop, take-append-drop, List·getD-append}
 use lib.Seq.{length-take-le, take-all, take-append-le, drop-append-le}
-use Rattle.rules.specs.Lists.{any, same}
+use Rattle.rules.specs.Lists.{anyOf, same}
 use Rattle.rules.specs.Tokens.{total}
 use Rattle.rules.specs.Laws.Tests.{decide, or-nl, or-nr}
 use Rattle.book.specs.Book.{Reading, refused, maxTokens, maxBodies, maxBody, bodyLength, kindAt, sizeAt, bodyAt, overLimits, repeats, closed, readFrom, readBook}
@@ -31,7 +31,7 @@ abbrev ways : (ℕ → List (List ℕ) → Reading) → ℕ → List (List ℕ) 
 ways rest at ts size body =
     elim (leb maxTokens (length ts) || ltb maxBodies (total ts + size)) [
       | true ↦ refused 5 at
-      | false ↦ elim (any (same body) ts) [ true ↦ refused 4 at | false ↦ rest (at + 1 + size) (ts ++ (body ∷ [])) ]
+      | false ↦ elim (anyOf (same body) ts) [ true ↦ refused 4 at | false ↦ rest (at + 1 + size) (ts ++ (body ∷ [])) ]
     ]
 
 -- What the reader answers at place `at`, by the kind there.

@@ -8,10 +8,10 @@ use mathlib.Core.Option.{some, none}
 use borrow.Author.Tests.{lt-ltb, ne-eqb, eqb-false}
 use lib.Dec.{eqb, ltb}
 use lib.ListN.{length, getD}
-use Rattle.rules.specs.Lists.{any}
+use Rattle.rules.specs.Lists.{anyOf}
 use Rattle.rules.specs.Rules.{Tree}
 use Rattle.rules.specs.Tokens.{ofTokens, ends, grown}
-use Rattle.rules.specs.Laws.Tests.{any-in, decide, or-nl, or-nr}
+use Rattle.rules.specs.Laws.Tests.{anyOf-in, decide, or-nl, or-nr}
 use Rattle.rules.specs.Laws.Endings.{front→ends}
 use Rattle.book.specs.Laws.Accepted.{Fit}
 use Rattle.image.specs.Rounds.{Reached, down, reached}
@@ -60,10 +60,10 @@ down-local tree image b c k y h same (suc fuel) (suc more) v d m l =
 
 module _ (tokens : List (List ℕ)) where
   -- Some token is longer than the root's ending, and each has that ending.
-  pub root-grows : Fit tokens → 1 ≤ length tokens → any (λ u. ltb 0 (length u) && ends [] u) tokens ≡ true
+  pub root-grows : Fit tokens → 1 ≤ length tokens → anyOf (λ u. ltb 0 (length u) && ends [] u) tokens ≡ true
   root-grows fit h =
       let u = getD tokens 0 [] in
-      any-in (λ u. ltb 0 (length u) && ends [] u) tokens [] 0 h (cc (lt-ltb 0 (length u) (fit .each 0 h .0), ends-bare u))
+      anyOf-in (λ u. ltb 0 (length u) && ends [] u) tokens [] 0 h (cc (lt-ltb 0 (length u) (fit .each 0 h .0), ends-bare u))
     where
       bare : (u : List ℕ) → u ≡ u ++ []
       bare [] = refl
@@ -73,9 +73,9 @@ module _ (tokens : List (List ℕ)) where
       ends-bare u = front→ends u [] u (bare u)
 
   -- Where an ending does not grow by x, no token ends so.
-  ungrown : (u : List ℕ) (x : ℕ) → grown tokens u x ≡ none → any (ends (x ∷ u)) tokens ≡ false
+  ungrown : (u : List ℕ) (x : ℕ) → grown tokens u x ≡ none → anyOf (ends (x ∷ u)) tokens ≡ false
   ungrown u x =
-      decide (λ o. o ≡ none → any (ends (x ∷ u)) tokens ≡ false) (any (ends (x ∷ u)) tokens) _ _
+      decide (λ o. o ≡ none → anyOf (ends (x ∷ u)) tokens ≡ false) (anyOf (ends (x ∷ u)) tokens) _ _
       (λ _ e. absurd (let z : _≡_ {A = ℕ} 0 1 = cc in omega arith)) (λ f _. f)
 
   module _ (S : ℕ) (image : List ℕ) (b : ℕ) where
@@ -83,17 +83,17 @@ module _ (tokens : List (List ℕ)) where
     ending = reached (ofTokens tokens S) image b
 
     -- No token ends with the first byte: the round ends there.
-    pub first-ends : Fit tokens → 1 ≤ length tokens → 1 ≤ b → (x : ℕ) → x ≡ getD image (b - 1) 0 → any (ends (x ∷ [])) tokens ≡ false
+    pub first-ends : Fit tokens → 1 ≤ length tokens → 1 ≤ b → (x : ℕ) → x ≡ getD image (b - 1) 0 → anyOf (ends (x ∷ [])) tokens ≡ false
         → ending ≡ record { node = []; depth = 0; closing = some x; marked = false }
     first-ends fit some-token h x e f =
         let z : b - 1 - 0 ≡ b - 1 = omega arith in
         cc (root-grows fit some-token, ne-eqb 0 b (λ e. omega arith), z)
 
     -- It ended there with the byte x: no token ends with x.
-    pub first-shut : (x : ℕ) → ending .depth ≡ 0 → ending .closing ≡ some x → any (ends (x ∷ [])) tokens ≡ false
+    pub first-shut : (x : ℕ) → ending .depth ≡ 0 → ending .closing ≡ some x → anyOf (ends (x ∷ [])) tokens ≡ false
     first-shut x =
         let tree = ofTokens tokens S in
-        down-cases tree image b b [] 0 false (λ r _. r .depth ≡ 0 → r .closing ≡ some x → any (ends (x ∷ [])) tokens ≡ false)
+        down-cases tree image b b [] 0 false (λ r _. r .depth ≡ 0 → r .closing ≡ some x → anyOf (ends (x ∷ [])) tokens ≡ false)
         (λ _ _ e. absurd (let z : _≡_ {A = ℕ} 0 1 = cc in omega arith))
         (λ _ k _ e. let z : getD image (b - 1 - 0) 0 ≡ x = cc in ungrown [] x (rw z at k))
         (λ _ w _ z _. absurd (omega (arith, down-deeper tree image b b w (0 + 1) (false || not (eqb (tree .token w) 0)))))

@@ -6,11 +6,11 @@ use mathlib.Core.List.{List, [], _∷_, _++_}
 use borrow.Author.Tests.{lt-leb}
 use lib.Dec.{ltb}
 use lib.ListN.{length}
-use Rattle.rules.specs.Lists.{filter}
+use Rattle.rules.specs.Lists.{select}
 use Rattle.rules.specs.Rules.{Tree, Stretch, Config, leftOver, cut, kept, ended, shiftedBy}
 use Rattle.rules.specs.Laws.All.{All}
 use Rattle.rules.specs.Laws.Remember.{Lies}
-use Rattle.rules.specs.Laws.Image.{stretches-append, stretches-length, stretches-filter, stretches-cut}
+use Rattle.rules.specs.Laws.Image.{stretches-append, stretches-length, stretches-select, stretches-cut}
 use Rattle.rules.specs.Laws.Limit.Count.{loose}
 use Rattle.rules.specs.Laws.Limit.Span.{four-few, Spans, short}
 use Rattle.image.specs.declared.spans.Spans as declared
@@ -33,12 +33,12 @@ module _ {E : Type 0} where
       let next = c .boundary + s in
       let rest = leftOver from (c .stretches) in
       let over : placesOf rest ≡ leftOver from (placesOf (c .stretches)) =
-      sym (stretches-filter bare (λ s. ltb (s .left) from) (λ s. ltb (s .left) from) (λ s. refl) (c .stretches)) in
+      sym (stretches-select bare (λ s. ltb (s .left) from) (λ s. ltb (s .left) from) (λ s. refl) (c .stretches)) in
       let new : ℕ → List Places = λ l. record { left = l; right = c .boundary; node = tt } ∷ [] in
-      sym (stretches-filter bare (kept next) (kept next) (λ s. refl) (ended tree c))
-      ∙ ap (filter (kept next)) (stretches-append bare rest _)
-      ∙ ap (λ l. filter (kept next) (placesOf rest ++ new l)) (sym (stretches-cut bare from rest))
-      ∙ ap (λ ss. filter (kept next) (ss ++ new (cut from ss))) over
+      sym (stretches-select bare (kept next) (kept next) (λ s. refl) (ended tree c))
+      ∙ ap (select (kept next)) (stretches-append bare rest _)
+      ∙ ap (λ l. select (kept next) (placesOf rest ++ new l)) (sym (stretches-cut bare from rest))
+      ∙ ap (λ ss. select (kept next) (ss ++ new (cut from ss))) over
 
   -- Each lies before the boundary, and they are five at most.
   pub spans-fit : (D b lo : ℕ) (ss : List (Stretch E)) → b < 2 ^ 32 → Spans D b lo ss → All (Lies b) (placesOf ss)

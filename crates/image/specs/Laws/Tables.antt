@@ -7,7 +7,7 @@ use mathlib.Core.List.{List, [], _++_}
 use mathlib.Core.Option.{Option, some, none}
 use lib.Dec.{eqb, ltb}
 use lib.ListN.{length, getD}
-use Rattle.rules.specs.Lists.{any, numberFrom}
+use Rattle.rules.specs.Lists.{anyOf, numberFrom}
 use Rattle.rules.specs.Rules.{Tree}
 use Rattle.rules.specs.Tokens.{ofTokens, ends}
 use Rattle.rules.specs.Laws.Endings.{Numbered, numbered}
@@ -45,7 +45,7 @@ module _ (tokens : List (List ℕ)) (S : ℕ) (t : Tables) (count : ℕ) (rep : 
     number-few u zero q = omega arith
     number-few u (suc m) q = omega (arith, q .1)
 
-    grows : any (λ u. ltb (length (ending t 0)) (length u) && ends (ending t 0) u) tokens ≡ true
+    grows : anyOf (λ u. ltb (length (ending t 0)) (length u) && ends (ending t 0) u) tokens ≡ true
     grows = rw (rep .root) (root-grows tokens fit some-token)
 
     below-count : (w : ℕ) (o : Option ℕ) (p : Option (List ℕ)) → Stand t count o p → o ≡ some w → w < count

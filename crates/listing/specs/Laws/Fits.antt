@@ -6,19 +6,19 @@ use mathlib.Core.List.{List, [], _∷_, _++_, map, map-append, List·Memᴰ, Lis
 use borrow.Author.Tests.{lt-ltb, ltb-true, ltb-false}
 use lib.Dec.{ltb}
 use lib.ListN.{length, getD, length-map, List·getD-map}
-use Rattle.rules.specs.Lists.{filter}
+use Rattle.rules.specs.Lists.{select}
 use Rattle.rules.specs.Sweep.{Stands, Once, Occurrences, hitsOf}
 use Rattle.rules.specs.Laws.Tests.{decide}
 use Rattle.rules.specs.Laws.All.{All, all-append}
 use Rattle.rules.specs.Laws.Exact.{happens-exact}
 use Rattle.rules.specs.Laws.Exact.Reads.{byteOf, reads-eq, stands→reads}
-use Rattle.rules.specs.Laws.Rising.{filter-out}
+use Rattle.rules.specs.Laws.Rising.{select-out}
 use Rattle.book.specs.Book.{readBook, accepted, bodyLength, kindAt, bodyAt, sizeAt}
 use Rattle.book.specs.Laws.Taken.{Taken, opened-length, accepted-keeps}
 use Rattle.book.specs.Laws.Accepted.{accepted-setting}
 use Rattle.listing.specs.Parts.{maxHits, maxPart}
 use Rattle.listing.specs.Laws.Part.{pair}
-use Rattle.listing.specs.Laws.Whole.{filter-all}
+use Rattle.listing.specs.Laws.Whole.{select-all}
 
 -- A list of different numbers below m has at most m.
 abbrev Apart : List ℕ → Type 0
@@ -29,12 +29,12 @@ abbrev Below : ℕ → List ℕ → Type 0
 Below m l = (a : ℕ) → List·Memᴰ a l → a < m
 
 abbrev less : ℕ → List ℕ → List ℕ
-less m = filter (λ a. ltb a m)
+less m = select (λ a. ltb a m)
 
 less-apart : (m : ℕ) (l : List ℕ) → Apart l → Apart (less m l)
 less-apart m [] o = tt
 less-apart m (a ∷ l) o =
-    decide Apart (ltb a m) _ _ (λ _. ((λ k. o .0 (filter-out (λ a. ltb a m) a l k .0)), less-apart m l (o .1))) (λ _. less-apart m l (o .1))
+    decide Apart (ltb a m) _ _ (λ _. ((λ k. o .0 (select-out (λ a. ltb a m) a l k .0)), less-apart m l (o .1))) (λ _. less-apart m l (o .1))
 
 one-more : (m : ℕ) (l : List ℕ) → Apart l → Below (suc m) l → length l ≤ suc (length (less m l))
 one-more m [] o b = omega arith
@@ -42,7 +42,7 @@ one-more m (a ∷ l) o b =
     decide (λ r. suc (length l) ≤ suc (length r)) (ltb a m) _ _ (λ _. omega (arith, one-more m l (o .1) (λ x k. b x (List·Memᴰ·tail k))))
     (λ f.
     let z : a ≡ m = omega (arith, ltb-false a m f, b a (List·Memᴰ·head refl)) in
-    let e : less m l ≡ l = filter-all (λ a. ltb a m) l λ x k.
+    let e : less m l ≡ l = select-all (λ a. ltb a m) l λ x k.
     let other : x ≡ m → ⊥ = λ y. o .0 (Memᴰ·cast (z ∙ sym y) k) in
     lt-ltb x m (omega (arith, b x (List·Memᴰ·tail k))) in
     omega (arith, ap length e))
@@ -54,7 +54,7 @@ below-few (suc m) l o b =
     omega (
       arith,
       one-more m l o b,
-      below-few m (less m l) (less-apart m l o) (λ a k. ltb-true a m (filter-out (λ a. ltb a m) a l k .1)),
+      below-few m (less m l) (less-apart m l o) (λ a k. ltb-true a m (select-out (λ a. ltb a m) a l k .1)),
     )
 
 -- The kinds of the tokens, one after the other.

@@ -12,7 +12,7 @@ use Rattle.rules.specs.Sweep.{Stands, further, hitsOf}
 use Rattle.rules.specs.Laws.Setting.{Setting}
 use Rattle.rules.specs.Laws.Exact.{happens-exact}
 use Rattle.rules.specs.Laws.Exact.Reads.{byteOf, stands→reads, reads→stands}
-use Rattle.rules.specs.Laws.Rising.{filter-in, filter-out, rising-moved, rising-filter, same-members}
+use Rattle.rules.specs.Laws.Rising.{select-in, select-out, rising-moved, rising-select, same-members}
 use Rattle.listing.specs.Parts.{between, past, upTo}
 
 pub pair : (g h : ℕ × ℕ) → g .0 ≡ h .0 → g .1 ≡ h .1 → g ≡ h
@@ -57,7 +57,7 @@ module _ (tokens : List (List ℕ)) (setting : Setting tokens (shortestOf tokens
 
   out : (h : ℕ × ℕ) → List·Memᴰ h (past at (map (further from) ofPart)) → List·Memᴰ h (past at (upTo to ofImage))
   out h m =
-      let f = filter-out (λ h. ltb at (h .0)) h (map (further from) ofPart) m in
+      let f = select-out (λ h. ltb at (h .0)) h (map (further from) ofPart) m in
       let g = Memᴰ·of-map (further from) ofPart (f .0) in
       let e = g .0 .0 in
       let i = g .0 .1 in
@@ -67,15 +67,15 @@ module _ (tokens : List (List ℕ)) (setting : Setting tokens (shortestOf tokens
       let z : i - 1 + 1 ≡ i = omega (arith, s .1) in
       let q : h ≡ (from + e, i - 1 + 1) = sym (g .2) ∙ ap (λ (n : ℕ). (from + e, n)) (sym z) in
       let inside : h .0 ≤ to = omega (arith, ap (λ (h : ℕ × ℕ). h .0) (g .2), o .1) in
-      filter-in (λ h. ltb at (h .0)) h (upTo to ofImage)
-      (filter-in (λ h. leb (h .0) to) h ofImage (Memᴰ·cast q (happens-exact tokens setting image .occurrences .complete (from + e) (i - 1) (o .0)))
+      select-in (λ h. ltb at (h .0)) h (upTo to ofImage)
+      (select-in (λ h. leb (h .0) to) h ofImage (Memᴰ·cast q (happens-exact tokens setting image .occurrences .complete (from + e) (i - 1) (o .0)))
       (le-leb (h .0) to inside))
       (f .1)
 
   back : (h : ℕ × ℕ) → List·Memᴰ h (past at (upTo to ofImage)) → List·Memᴰ h (past at (map (further from) ofPart))
   back h m =
-      let f = filter-out (λ h. ltb at (h .0)) h (upTo to ofImage) m in
-      let g = filter-out (λ h. leb (h .0) to) h ofImage (f .0) in
+      let f = select-out (λ h. ltb at (h .0)) h (upTo to ofImage) m in
+      let g = select-out (λ h. leb (h .0) to) h ofImage (f .0) in
       let e = h .0 - from in
       let i = h .1 - 1 in
       let s = happens-exact tokens setting image .occurrences .sound (h .0) (h .1) (g .0) in
@@ -87,13 +87,13 @@ module _ (tokens : List (List ℕ)) (setting : Setting tokens (shortestOf tokens
       let c = Memᴰ·map (further from) (happens-exact tokens setting (between from to image) .occurrences .complete e i p) in
       let y : h .1 ≡ i + 1 = omega (arith, s .1) in
       let q : h ≡ (from + e, i + 1) = pair h (from + e, i + 1) (sym z) y in
-      filter-in (λ h. ltb at (h .0)) h (map (further from) ofPart) (Memᴰ·cast q c) (f .1)
+      select-in (λ h. ltb at (h .0)) h (map (further from) ofPart) (Memᴰ·cast q c) (f .1)
 
   pub part : past at (map (further from) (hitsOf tokens (between from to image))) ≡ past at (upTo to (hitsOf tokens image))
   part =
       same-members tokens _ _
-      (rising-filter tokens (λ h. ltb at (h .0)) (map (further from) ofPart)
+      (rising-select tokens (λ h. ltb at (h .0)) (map (further from) ofPart)
       (rising-moved tokens from ofPart (happens-exact tokens setting (between from to image) .rising)))
-      (rising-filter tokens (λ h. ltb at (h .0)) (upTo to ofImage)
-      (rising-filter tokens (λ h. leb (h .0) to) ofImage (happens-exact tokens setting image .rising)))
+      (rising-select tokens (λ h. ltb at (h .0)) (upTo to ofImage)
+      (rising-select tokens (λ h. leb (h .0) to) ofImage (happens-exact tokens setting image .rising)))
       out back

@@ -7,7 +7,7 @@ use mathlib.Core.List.{List, [], _∷_, _++_, List·Memᴰ, List·Memᴰ·head, 
 use borrow.Author.Tests.{lt-ltb, le-ltb, lt-leb, ltb-true, ltb-false, leb-true, leb-false}
 use lib.Dec.{leb, ltb}
 use lib.ListN.{length}
-use Rattle.rules.specs.Lists.{filter}
+use Rattle.rules.specs.Lists.{select}
 use Rattle.rules.specs.Sweep.{Occurrences, Ordered, hitsOf}
 use Rattle.rules.specs.Laws.Tests.{decide}
 use Rattle.rules.specs.Laws.Exact.{happens-exact}
@@ -18,13 +18,13 @@ use Rattle.listing.specs.Laws.Part.{part}
 
 -- A filter that each element passes, and one that none passes.
 module _ {A : Type 0} (p : A → Bool) where
-  pub filter-all : (l : List A) → ((a : A) → List·Memᴰ a l → p a ≡ true) → filter p l ≡ l
-  filter-all [] f = refl
-  filter-all (a ∷ l) f = cc (f a (List·Memᴰ·head refl), filter-all l (λ b m. f b (List·Memᴰ·tail m)))
+  pub select-all : (l : List A) → ((a : A) → List·Memᴰ a l → p a ≡ true) → select p l ≡ l
+  select-all [] f = refl
+  select-all (a ∷ l) f = cc (f a (List·Memᴰ·head refl), select-all l (λ b m. f b (List·Memᴰ·tail m)))
 
-  filter-none : (l : List A) → ((a : A) → List·Memᴰ a l → p a ≡ false) → filter p l ≡ []
-  filter-none [] f = refl
-  filter-none (a ∷ l) f = cc (f a (List·Memᴰ·head refl), filter-none l (λ b m. f b (List·Memᴰ·tail m)))
+  select-none : (l : List A) → ((a : A) → List·Memᴰ a l → p a ≡ false) → select p l ≡ []
+  select-none [] f = refl
+  select-none (a ∷ l) f = cc (f a (List·Memᴰ·head refl), select-none l (λ b m. f b (List·Memᴰ·tail m)))
 
 -- The hits past `at`, cut at `to`: ends never fall.
 cut : (at to : ℕ) → at ≤ to → (l : List (ℕ × ℕ)) → Ordered l → past at (upTo to l) ++ past to l ≡ past at l
@@ -37,7 +37,7 @@ cut at to h (g ∷ l) o =
     decide {X = ℕ} (λ _. past at (upTo to (g ∷ l)) ++ past to (g ∷ l) ≡ past at (g ∷ l)) (ltb at (g .0)) 0 0 (λ v. cc) (λ v. cc))
     (λ f.
     let b = leb-false (g .0) to f in
-    let n : upTo to l ≡ [] = filter-none (λ h. leb (h .0) to) l (λ x m. lt-leb (x .0) to (omega (arith, o .0 (x .0) (x .1) m))) in
+    let n : upTo to l ≡ [] = select-none (λ h. leb (h .0) to) l (λ x m. lt-leb (x .0) to (omega (arith, o .0 (x .0) (x .1) m))) in
     cc (lt-ltb to (g .0) b, lt-ltb at (g .0) (omega arith)))
 
 module _ (book : List ℕ) (tokens : List (List ℕ)) (read : readBook book ≡ accepted tokens) (image : List ℕ) where
@@ -46,7 +46,7 @@ module _ (book : List ℕ) (tokens : List (List ℕ)) (read : readBook book ≡ 
 
   -- no hit ends past the image
   none-past : (at : ℕ) → length image ≤ at → past at (hitsOf tokens image) ≡ []
-  none-past at h = filter-none (λ g. ltb at (g .0)) _ (λ g m. le-ltb at (g .0) (omega (arith, found .sound (g .0) (g .1) m .0 .inside)))
+  none-past at h = select-none (λ g. ltb at (g .0)) _ (λ g m. le-ltb at (g .0) (omega (arith, found .sound (g .0) (g .1) m .0 .inside)))
 
   listed-past : (fuel at : ℕ) → length image ≤ at + fuel → listedFrom tokens image fuel at ≡ past at (hitsOf tokens image)
   listed-past zero at h = sym (none-past at (omega arith))
@@ -63,7 +63,7 @@ module _ (book : List ℕ) (tokens : List (List ℕ)) (read : readBook book ≡ 
   pub whole : listedFrom tokens image (length image) 0 ≡ hitsOf tokens image
   whole =
       listed-past (length image) 0 (omega arith)
-      ∙ filter-all (λ g. ltb 0 (g .0)) (hitsOf tokens image)
+      ∙ select-all (λ g. ltb 0 (g .0)) (hitsOf tokens image)
       (λ g m.
       let s = found .sound (g .0) (g .1) m .0 in
       let b = accepted-setting book tokens read in

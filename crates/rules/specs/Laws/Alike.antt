@@ -7,11 +7,11 @@ use mathlib.Core.List.{List, [], _∷_}
 use mathlib.Core.Option.{Option, some, none}
 use borrow.Author.Tests.{leb-true, ltb-true}
 use lib.Dec.{leb, ltb, eqb}
-use Rattle.rules.specs.Rules.{Tree, Stretch, Config, shifted, Step, Next, finished, wants, goes, place, leftOver, cut, kept, recall, ended, shiftedBy, endRound, taken, take, look, next, follow, trace}
+use Rattle.rules.specs.Rules.{Tree, Stretch, Config, shifted, Step, Next, finished, wants, goes, place, leftOver, cut, kept, recall, ended, shiftedBy, endRound, taken, takeByte, look, next, follow, trace}
 use Rattle.rules.specs.Laws.Tests.{and-l, and-r, next-cases}
 use Rattle.rules.specs.Laws.Limit.Span.{cut-ge}
-use Rattle.rules.specs.Laws.All.{All, all-append, all-filter}
-use Rattle.rules.specs.Laws.Image.{stretchesOf, configOf, eventsOf, stepOf, nextOf, stretches-append, stretches-filter, stretches-cut, events-append, events-hit}
+use Rattle.rules.specs.Laws.All.{All, all-append, all-select}
+use Rattle.rules.specs.Laws.Image.{stretchesOf, configOf, eventsOf, stepOf, nextOf, stretches-append, stretches-select, stretches-cut, events-append, events-hit}
 
 -- rules 1 and 2: the arguments are whether the boundary is past the image, whether the round ends, and what is remembered
 abbrev chosen : {E : Type 0} → Tree E → Config E → Bool → Bool → Option ℕ → Next E
@@ -65,7 +65,7 @@ module _ {E F : Type 0} {here : Tree E} {there : Tree F} {f : E → F} {P : E �
 
   module _ (c : Config E) (a : Apt c) where
     rest-same : leftOver (c .boundary - c .depth) (stretchesOf f (c .stretches)) ≡ stretchesOf f (leftOver (c .boundary - c .depth) (c .stretches))
-    rest-same = stretches-filter f _ _ (λ s. refl) (c .stretches)
+    rest-same = stretches-select f _ _ (λ s. refl) (c .stretches)
 
     high : c .boundary - cut (c .boundary - c .depth) (leftOver (c .boundary - c .depth) (c .stretches)) ≤ size (f (c .node))
     high = omega (arith, a .sized, cut-ge (c .boundary - c .depth) (leftOver (c .boundary - c .depth) (c .stretches)))
@@ -81,7 +81,7 @@ module _ {E F : Type 0} {here : Tree E} {there : Tree F} {f : E → F} {P : E �
         let from = c .boundary - c .depth in
         let r = leftOver from (c .stretches) in
         let k = c .boundary - cut from r in
-        all-append AptStretch r _ (all-filter AptStretch _ (c .stretches) (a .stretches)) (
+        all-append AptStretch r _ (all-select AptStretch _ (c .stretches) (a .stretches)) (
           (
             alike .ancestor-in (c .node) k (a .node) high,
             ap size (alike .ancestor (c .node) k (a .node) high) ∙ alike .lifted (f (c .node)) k high,
@@ -93,7 +93,7 @@ module _ {E F : Type 0} {here : Tree E} {there : Tree F} {f : E → F} {P : E �
     shifted-same s = cc (
       ended-same,
       alike .root,
-      stretches-filter f (kept (c .boundary + s)) (kept (c .boundary + s)) (λ s. refl) (ended here c),
+      stretches-select f (kept (c .boundary + s)) (kept (c .boundary + s)) (λ s. refl) (ended here c),
     )
 
     end-same : (o : Option ℕ) → endRound there (configOf f c) o ≡ stepOf f (endRound here c o)
@@ -107,7 +107,7 @@ module _ {E F : Type 0} {here : Tree E} {there : Tree F} {f : E → F} {P : E �
         record {
           node = alike .root-in;
           sized = ap size (alike .root) ∙ alike .bare;
-          stretches = all-filter AptStretch (kept b) (ended here c) ended-apt;
+          stretches = all-select AptStretch (kept b) (ended here c) ended-apt;
         }
 
     taken-same : (x : ℕ) (o : Option E) (q : Option F) → Both f P o q → taken there (configOf f c) x q ≡ stepOf f (taken here c x o)
@@ -116,7 +116,7 @@ module _ {E F : Type 0} {here : Tree E} {there : Tree F} {f : E → F} {P : E �
     taken-same x (some w) none h = absurd h
     taken-same x (some w) (some u) h = cc (h .1, alike .token w (h .0), events-hit f (c .boundary) (here .token w))
 
-    pub take-same : (x : ℕ) → take there (configOf f c) x ≡ stepOf f (take here c x)
+    pub take-same : (x : ℕ) → takeByte there (configOf f c) x ≡ stepOf f (takeByte here c x)
     take-same x = taken-same x (here .child (c .node) x) (there .child (f (c .node)) x) (alike .child (c .node) x (a .node))
 
     taken-apt : (x : ℕ) (o : Option E) (q : Option F) → Both f P o q → there .child (f (c .node)) x ≡ q → Apt (taken here c x o .config)
@@ -129,7 +129,7 @@ module _ {E F : Type 0} {here : Tree E} {there : Tree F} {f : E → F} {P : E �
       stretches = a .stretches;
     }
 
-    pub take-apt : (x : ℕ) → Apt (take here c x .config)
+    pub take-apt : (x : ℕ) → Apt (takeByte here c x .config)
     take-apt x = taken-apt x (here .child (c .node) x) (there .child (f (c .node)) x) (alike .child (c .node) x (a .node)) refl
 
     look-same : (o : Option ℕ) → look there (configOf f c) o ≡ nextOf f (look here c o)
@@ -176,7 +176,7 @@ module _ {E F : Type 0} {here : Tree E} {there : Tree F} {f : E → F} {P : E �
           → follow there ask (trace there n ask fuel) k (configOf f c) (nextOf f x) ≡ eventsOf f (follow here ask (trace here n ask fuel) k c x)
       go finished h ih = refl
       go (wants at) h ih =
-          let s = take here c (ask k at) in
+          let s = takeByte here c (ask k at) in
           let e = events-append f (s .events) (trace here n ask fuel (k + 1) (s .config)) in
           cc (take-same c a (ask k at), ih (k + 1) (s .config) (take-apt c a (ask k at)))
       go (goes s) h ih = cc (events-append f (s .events) (trace here n ask fuel k (s .config)), ih k (s .config) h)

@@ -5,7 +5,7 @@ use mathlib.Core.Bool.{Bool, true, false}
 use mathlib.Core.List.{List, [], _∷_, _++_}
 use lib.ListN.{length}
 use Rattle.rules.specs.Rules.{Stretch, Config, Event, fetched, recalled, hit, shifted, done, Step, Next, finished, wants, goes, cut, hitAt}
-use Rattle.rules.specs.Lists.{filter}
+use Rattle.rules.specs.Lists.{select}
 
 module _ {E F : Type 0} (f : E → F) where
   abbrev pub stretchOf : Stretch E → Stretch F
@@ -45,13 +45,13 @@ module _ {E F : Type 0} (f : E → F) where
   stretches-length [] = refl
   stretches-length (s ∷ a) = cc (stretches-length a)
 
-  pub stretches-filter : (p : Stretch E → Bool) (q : Stretch F → Bool) → ((s : Stretch E) → q (stretchOf s) ≡ p s) → (ss : List (Stretch E))
-      → filter q (stretchesOf ss) ≡ stretchesOf (filter p ss)
-  stretches-filter p q h [] = refl
-  stretches-filter p q h (s ∷ ss) = go (p s) (h s) (stretches-filter p q h ss)
+  pub stretches-select : (p : Stretch E → Bool) (q : Stretch F → Bool) → ((s : Stretch E) → q (stretchOf s) ≡ p s) → (ss : List (Stretch E))
+      → select q (stretchesOf ss) ≡ stretchesOf (select p ss)
+  stretches-select p q h [] = refl
+  stretches-select p q h (s ∷ ss) = go (p s) (h s) (stretches-select p q h ss)
     where
-      go : (b : Bool) → q (stretchOf s) ≡ b → filter q (stretchesOf ss) ≡ stretchesOf (filter p ss)
-          → filter q (stretchesOf (s ∷ ss)) ≡ stretchesOf (elim b [ true ↦ s ∷ filter p ss | false ↦ filter p ss ])
+      go : (b : Bool) → q (stretchOf s) ≡ b → select q (stretchesOf ss) ≡ stretchesOf (select p ss)
+          → select q (stretchesOf (s ∷ ss)) ≡ stretchesOf (elim b [ true ↦ s ∷ select p ss | false ↦ select p ss ])
       go true e ih = cc
       go false e ih = cc
 

@@ -8,12 +8,12 @@ use lib.Dec.{ltb}
 use lib.ListN.{length, length-append}
 use native.Mathlib.Nat.{mul-le-mul-right, le-trans}
 use native.Mathlib.Omega.{arith}
-use Rattle.rules.specs.Rules.{Tree, Config, Event, Step, Next, finished, wants, goes, place, leftOver, kept, hitAt, deeper, fresh, recall, ended, shiftedBy, endRound, taken, take, look, next, follow, trace}
+use Rattle.rules.specs.Rules.{Tree, Config, Event, Step, Next, finished, wants, goes, place, leftOver, kept, hitAt, deeper, fresh, recall, ended, shiftedBy, endRound, taken, takeByte, look, next, follow, trace}
 use Rattle.rules.specs.Sweep.{digits4, limit, places, Few}
 use Rattle.rules.specs.Laws.Digits.{limit-mono, fewer}
 use Rattle.rules.specs.Laws.Tests.{next-cases}
 use Rattle.rules.specs.Laws.Limit.Span.{Spans, Laid, Upto, short, laid, cut-ge, cut-le, kept-spans, kept-upto}
-use Rattle.rules.specs.Laws.All.{length-filter}
+use Rattle.rules.specs.Laws.All.{length-select}
 use Rattle.rules.specs.Laws.Limit.Count.{loose, worth, loose-less, loose-step, worth-raise, worth-cap, worth-kept, gain}
 use Rattle.rules.specs.Laws.Limit.Ends.{stepsLeft, less-end, less-deeper, Finite}
 use Rattle.rules.specs.Laws.Limit.Events.{Always, always-map, always-last}
@@ -47,7 +47,7 @@ pub record FineStep {E : Type 0} (size : E → ℕ) (D S n : ℕ) (c : Config E)
 
 abbrev pub FineNext : {E : Type 0} → Tree E → (E → ℕ) → ℕ → ℕ → ℕ → Config E → ℕ → Next E → Type 0
 FineNext tree size D S n c m finished = n < c .boundary
-FineNext tree size D S n c m (wants at) = (x : ℕ) → FineStep size D S n c (suc m) (take tree c x)
+FineNext tree size D S n c m (wants at) = (x : ℕ) → FineStep size D S n c (suc m) (takeByte tree c x)
 FineNext tree size D S n c m (goes w) = FineStep size D S n c m w
 
 -- What a round leaves that ends here, before rule 6 drops some of it.
@@ -62,7 +62,7 @@ module _ {E : Type 0} (tree : Tree E) (size : E → ℕ) (D : ℕ) (c : Config E
   ended-few j =
       simp length-append (omega (
         arith,
-        length-filter (λ s. ltb (s .left) (c .boundary - c .depth)) (c .stretches),
+        length-select (λ s. ltb (s .left) (c .boundary - c .depth)) (c .stretches),
         fewer (length (c .stretches)) D (short D (c .boundary) 0 (c .stretches) j (h .spans)),
       ))
 

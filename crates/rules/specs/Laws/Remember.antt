@@ -6,9 +6,9 @@ use mathlib.Core.Path.{_≡_, refl, ap, sym, _∙_}
 use mathlib.Core.Bool.{Bool, true, false, _&&_}
 use mathlib.Core.List.{List, [], _∷_, _++_, append-nil, append-assoc}
 use lib.Dec.{ltb}
-use Rattle.rules.specs.Lists.{filter}
+use Rattle.rules.specs.Lists.{select}
 use Rattle.rules.specs.Rules.{Stretch, leftOver, cut, kept}
-use Rattle.rules.specs.Laws.All.{All, all-map, all-filter, filter-append}
+use Rattle.rules.specs.Laws.All.{All, all-map, all-select, select-append}
 use Rattle.rules.specs.Laws.Limit.Span.{cut-ge, cut-upto}
 
 module _ {E : Type 0} where
@@ -27,7 +27,7 @@ module _ {E : Type 0} where
   stays from b s = ltb (s .left) from && kept b s
 
   abbrev pub staying : ℕ → ℕ → List (Stretch E) → List (Stretch E)
-  staying from b ss = filter (kept b) (leftOver from ss)
+  staying from b ss = select (kept b) (leftOver from ss)
 
   -- Stretches that lie before a boundary b lie before a later one, and so does the new one behind them.
   module _ (b next : ℕ) (moves : b ≤ next) (small : next < 2 ^ 32) (ss : List (Stretch E)) (lie : All (Lies b) ss) where
@@ -37,7 +37,7 @@ module _ {E : Type 0} where
     pub edge-upto : (from : ℕ) → from ≤ b → cut from (leftOver from ss) ≤ b
     edge-upto from h =
         cut-upto from b (leftOver from ss) h
-        (all-filter (λ s. s .right ≤ b) _ ss (all-map (Lies b) (λ s. s .right ≤ b) (λ s l. l .before) ss lie))
+        (all-select (λ s. s .right ≤ b) _ ss (all-map (Lies b) (λ s. s .right ≤ b) (λ s l. l .before) ss lie))
 
     pub new-lies : (from left : ℕ) (v : E) → from ≤ b → left ≡ cut from (leftOver from ss) → Lies next (record { left = left; right = b; node = v })
     new-lies from left v h e = record { some-length = omega (arith, e, edge-upto from h); before = moves; small = small }
@@ -67,7 +67,7 @@ module _ {E : Type 0} where
   pub staying-one : (from b : ℕ) (s : Stretch E) → staying from b (s ∷ []) ≡ elim (stays from b s) [ true ↦ s ∷ [] | false ↦ [] ]
   staying-one from b s = go (ltb (s .left) from)
     where
-      go : (x : Bool) → filter (kept {E = E} b) (elim x [ true ↦ s ∷ [] | false ↦ [] ]) ≡ elim (x && kept b s) [ true ↦ s ∷ [] | false ↦ [] ]
+      go : (x : Bool) → select (kept {E = E} b) (elim x [ true ↦ s ∷ [] | false ↦ [] ]) ≡ elim (x && kept b s) [ true ↦ s ∷ [] | false ↦ [] ]
       go true = refl
       go false = refl
 
@@ -90,5 +90,5 @@ module _ {E : Type 0} where
       where
         more : staying from b (s ∷ rest) ≡ staying from b (s ∷ []) ++ staying from b rest
         more =
-            ap (filter (kept b)) (filter-append (λ s. ltb (s .left) from) (s ∷ []) rest)
-            ∙ filter-append (kept b) (leftOver from (s ∷ [])) (leftOver from rest)
+            ap (select (kept b)) (select-append (λ s. ltb (s .left) from) (s ∷ []) rest)
+            ∙ select-append (kept b) (leftOver from (s ∷ [])) (leftOver from rest)

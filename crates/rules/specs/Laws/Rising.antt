@@ -6,27 +6,27 @@ use mathlib.Core.Path.{_≡_, refl, ap, sym, subst, _∙_}
 use mathlib.Core.Bool.{Bool, true, false}
 use mathlib.Core.Logic.{_⊎_, inl, inr}
 use mathlib.Core.List.{List, [], _∷_, map, List·Memᴰ, List·Memᴰ·head, List·Memᴰ·tail, List·Memᴰ·not-nil, List·Memᴰ·cases-cons}
-use Rattle.rules.specs.Lists.{filter}
+use Rattle.rules.specs.Lists.{select}
 use Rattle.rules.specs.Sweep.{further}
 use Rattle.rules.specs.Laws.Tests.{decide}
-use Rattle.rules.specs.Laws.All.{All, all-filter}
+use Rattle.rules.specs.Laws.All.{All, all-select}
 use Rattle.rules.specs.Laws.Exact.{all-mem}
 use Rattle.rules.specs.Laws.Exact.Events.{lengthOf, Later, Rising}
 
 -- The members of a filtered list are those that pass.
 module _ {A : Type 0} (p : A → Bool) where
-  pub filter-in : (a : A) (l : List A) → List·Memᴰ a l → p a ≡ true → List·Memᴰ a (filter p l)
-  filter-in a (x ∷ l) (List·Memᴰ·head e) t =
+  pub select-in : (a : A) (l : List A) → List·Memᴰ a l → p a ≡ true → List·Memᴰ a (select p l)
+  select-in a (x ∷ l) (List·Memᴰ·head e) t =
       decide (List·Memᴰ a) (p x) _ _ (λ _. List·Memᴰ·head e) (λ f. absurd (let z : _≡_ {A = ℕ} 0 1 = cc in omega arith))
-  filter-in a (x ∷ l) (List·Memᴰ·tail m) t =
-      decide (List·Memᴰ a) (p x) _ _ (λ _. List·Memᴰ·tail (filter-in a l m t)) (λ _. filter-in a l m t)
+  select-in a (x ∷ l) (List·Memᴰ·tail m) t =
+      decide (List·Memᴰ a) (p x) _ _ (λ _. List·Memᴰ·tail (select-in a l m t)) (λ _. select-in a l m t)
 
-  pub filter-out : (a : A) (l : List A) → List·Memᴰ a (filter p l) → List·Memᴰ a l × (p a ≡ true)
-  filter-out a [] m = absurd (List·Memᴰ·not-nil m)
-  filter-out a (x ∷ l) m = go (p x) refl (filter-out a l) m
+  pub select-out : (a : A) (l : List A) → List·Memᴰ a (select p l) → List·Memᴰ a l × (p a ≡ true)
+  select-out a [] m = absurd (List·Memᴰ·not-nil m)
+  select-out a (x ∷ l) m = go (p x) refl (select-out a l) m
     where
-      go : (b : Bool) → p x ≡ b → (List·Memᴰ a (filter p l) → List·Memᴰ a l × (p a ≡ true))
-          → List·Memᴰ a (elim b [ true ↦ x ∷ filter p l | false ↦ filter p l ]) → List·Memᴰ a (x ∷ l) × (p a ≡ true)
+      go : (b : Bool) → p x ≡ b → (List·Memᴰ a (select p l) → List·Memᴰ a l × (p a ≡ true))
+          → List·Memᴰ a (elim b [ true ↦ x ∷ select p l | false ↦ select p l ]) → List·Memᴰ a (x ∷ l) × (p a ≡ true)
       go true e f m = elim (List·Memᴰ·cases-cons m) [ inl q ↦ (List·Memᴰ·head q, ap p q ∙ e) | inr k ↦ (List·Memᴰ·tail (f k .0), f k .1) ]
       go false e f m = (List·Memᴰ·tail (f m .0), f m .1)
 
@@ -49,10 +49,10 @@ module _ (tokens : List (List ℕ)) where
       all [] a = tt
       all (g ∷ l) a = (before-moved n h g (a .0), all l (a .1))
 
-  pub rising-filter : (p : ℕ × ℕ → Bool) (l : List (ℕ × ℕ)) → Rising tokens l → Rising tokens (filter p l)
-  rising-filter p [] r = tt
-  rising-filter p (h ∷ l) r =
-      decide (Rising tokens) (p h) _ _ (λ _. (all-filter (Before h) p l (r .0), rising-filter p l (r .1))) (λ _. rising-filter p l (r .1))
+  pub rising-select : (p : ℕ × ℕ → Bool) (l : List (ℕ × ℕ)) → Rising tokens l → Rising tokens (select p l)
+  rising-select p [] r = tt
+  rising-select p (h ∷ l) r =
+      decide (Rising tokens) (p h) _ _ (λ _. (all-select (Before h) p l (r .0), rising-select p l (r .1))) (λ _. rising-select p l (r .1))
 
   abbrev Within : List (ℕ × ℕ) → List (ℕ × ℕ) → Type 0
   Within l m = (h : ℕ × ℕ) → List·Memᴰ h l → List·Memᴰ h m

@@ -11,7 +11,7 @@ use borrow.Author.Tests.{eqb-false, ltb-true, ltb-false}
 use lib.Dec.{eqb, ltb}
 use lib.ListN.{length, getD}
 use Rattle.rules.specs.Rules.{Tree, Config, Next, finished, goes, place, recall, endRound, look, next}
-use Rattle.rules.specs.Lists.{any, every, least}
+use Rattle.rules.specs.Lists.{anyOf, every, least}
 
 -- A test is decided, and its answer is kept.
 pub decide {ℓ} : {X : Type ℓ} (P : X → Type 0) (t : Bool) (x y : X) → (t ≡ true → P x) → (t ≡ false → P y)
@@ -99,16 +99,16 @@ split {P} v w f g = go (ℕ-discrete v w)
     go (yes e) = f e
     go (no d) = g d
 
-pub any-in {ℓ} : {A : Type ℓ} (p : A → Bool) (l : List A) (d : A) (i : ℕ) → i < length l → p (getD l i d) ≡ true → any p l ≡ true
-any-in p [] d i h t = absurd (omega arith)
-any-in p (a ∷ l) d zero h t = cc
-any-in p (a ∷ l) d (suc i) h t = or-r (p a) _ (λ _. any-in p l d i (omega arith) t)
+pub anyOf-in {ℓ} : {A : Type ℓ} (p : A → Bool) (l : List A) (d : A) (i : ℕ) → i < length l → p (getD l i d) ≡ true → anyOf p l ≡ true
+anyOf-in p [] d i h t = absurd (omega arith)
+anyOf-in p (a ∷ l) d zero h t = cc
+anyOf-in p (a ∷ l) d (suc i) h t = or-r (p a) _ (λ _. anyOf-in p l d i (omega arith) t)
 
-pub any-out {ℓ} : {A : Type ℓ} (p : A → Bool) (l : List A) (d : A) → any p l ≡ true → (i : ℕ) × (i < length l) × (p (getD l i d) ≡ true)
-any-out p [] d t = absurd (clash _ t refl)
-any-out {A} p (a ∷ l) d t = go (p a) refl t (λ t. any-out p l d t)
+pub anyOf-out {ℓ} : {A : Type ℓ} (p : A → Bool) (l : List A) (d : A) → anyOf p l ≡ true → (i : ℕ) × (i < length l) × (p (getD l i d) ≡ true)
+anyOf-out p [] d t = absurd (clash _ t refl)
+anyOf-out {A} p (a ∷ l) d t = go (p a) refl t (λ t. anyOf-out p l d t)
   where
-    go : (b : Bool) → p a ≡ b → (b || any p l) ≡ true → (any p l ≡ true → (i : ℕ) × (i < length l) × (p (getD l i d) ≡ true))
+    go : (b : Bool) → p a ≡ b → (b || anyOf p l) ≡ true → (anyOf p l ≡ true → (i : ℕ) × (i < length l) × (p (getD l i d) ≡ true))
         → (i : ℕ) × (i < suc (length l)) × (p (getD {A = A} (a ∷ l) i d) ≡ true)
     go true e t f = (0, omega arith, e)
     go false e t f = let r = f t in (suc (r .0), omega arith, r .2)

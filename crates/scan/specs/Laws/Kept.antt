@@ -5,7 +5,7 @@ use mathlib.Core.Path.{_≡_, refl, ap, subst, _∙_}
 use mathlib.Core.Bool.{Bool, true, false, _||_, not}
 use mathlib.Core.Option.{Option, some, none}
 use Rattle.book.specs.Book.{maxBody}
-use Rattle.rules.specs.Rules.{Config, Step, Next, finished, wants, goes, take, next}
+use Rattle.rules.specs.Rules.{Config, Step, Next, finished, wants, goes, takeByte, next}
 use Rattle.rules.specs.Laws.Tests.{clash}
 use Rattle.tables.specs.Tables.{Tables}
 use Rattle.tables.specs.Broken.{broken}
@@ -108,13 +108,13 @@ carry-kept t s e =
     ∙ settle-kept t s (admitted-ready t s false e) (counts t s ranged) ranged (enough s) (configOf s) (admitted-within t s false e)
 
 -- The byte that is due leaves the configuration in range.
-pub supplied-within : (t : Tables) (s : Scan) (x : ℕ) → judged t s true ≡ none → WithinFor t s (take (treeOf t s) (configOf s) x .config)
+pub supplied-within : (t : Tables) (s : Scan) (x : ℕ) → judged t s true ≡ none → WithinFor t s (takeByte (treeOf t s) (configOf s) x .config)
 supplied-within t s x e =
     let a = admitted t s true e in
     go (next (treeOf t s) (s .image) (configOf s)) (next-within (admitted-ready t s true e) (configOf s) (admitted-within t s true e))
     (subst (λ d. (not d || wantsByte (next (treeOf t s) (s .image) (configOf s))) ≡ true) (a .2) (dues t s (a .1)))
   where
-    go : (n : Next ℕ) → NextFor t s (configOf s) n → wantsByte n ≡ true → WithinFor t s (take (treeOf t s) (configOf s) x .config)
+    go : (n : Next ℕ) → NextFor t s (configOf s) n → wantsByte n ≡ true → WithinFor t s (takeByte (treeOf t s) (configOf s) x .config)
     go finished h p = absurd (clash false p refl)
     go (wants at) h p = h x .within
     go (goes w) h p = absurd (clash false p refl)
@@ -122,7 +122,7 @@ supplied-within t s x e =
 pub supply-kept : (t : Tables) (s : Scan) (x : ℕ) → judged t s true ≡ none → inRange t (supply t s x .state) ≡ true
 supply-kept t s x e =
     let r = admitted-ready t s true e in
-    let w = take (treeOf t s) (configOf s) x in
+    let w = takeByte (treeOf t s) (configOf s) x in
     let few : counted s .supplied ≤ maxSupplied = omega arith in
     let kept = settle-kept t (counted s) r few (in-range t (counted s) r few (slots t s (admitted t s true e .1)) (admitted-within t s true e) refl) (enough s) in
     ap (λ j. inRange t (onJudged s (onHit t (counted s) (enough s) w (hitIn (w .events))) j .state)) e

@@ -7,7 +7,7 @@ use mathlib.Core.List.{List, [], _∷_, _++_}
 use mathlib.Core.Option.{Option, some}
 use lib.ListN.{getD}
 use Rattle.book.specs.Book.{maxBody}
-use Rattle.rules.specs.Lists.{filter}
+use Rattle.rules.specs.Lists.{select}
 use Rattle.rules.specs.Rules.{Stretch, Config, leftOver, cut, kept, recall, ended}
 use Rattle.rules.specs.Tokens.{shiftOf}
 use Rattle.rules.specs.Laws.All.{All, all-map}
@@ -47,13 +47,13 @@ module _ (t : Tables) (count S : ℕ) where
 
   -- Rules 4 and 6, over the parents.
   pub remember-by : (c : Config ℕ) (next : ℕ) → rememberBy (t .parent) (c .stretches) (c .node) (c .depth) (c .boundary) next
-      ≡ laid maxStretches (filter (kept next) (ended (ofTables t count S) c))
+      ≡ laid maxStretches (select (kept next) (ended (ofTables t count S) c))
   remember-by c next =
       let u = paths (t .parent) [] in
       let from = c .boundary - c .depth in
       let rest = leftOver from (c .stretches) in
       let far = ap (λ d. d - (c .boundary - cut from rest)) (depth-alike u t refl (c .node)) in
-      ap (λ v. laid maxStretches (filter (kept next) (rest ++ (stretch (cut from rest) (c .boundary) v ∷ []))))
+      ap (λ v. laid maxStretches (select (kept next) (rest ++ (stretch (cut from rest) (c .boundary) v ∷ []))))
       (ap (λ n. lifted u n (c .node)) far ∙ lifted-alike u t refl (depth t (c .node) - (c .boundary - cut from rest)) (c .node))
     where
       stretch : ℕ → ℕ → ℕ → Stretch ℕ

@@ -4,7 +4,7 @@ use native.Mathlib.Omega.{arith}
 use mathlib.Core.Path.{_≡_, refl}
 use mathlib.Core.List.{List, [], _∷_, _++_}
 use mathlib.Core.Option.{Option, some, none}
-use Rattle.rules.specs.Rules.{Tree, Config, Event, fetched, recalled, hit, shifted, done, Step, Next, finished, wants, goes, place, hitAt, recall, endRound, taken, take, look, next}
+use Rattle.rules.specs.Rules.{Tree, Config, Event, fetched, recalled, hit, shifted, done, Step, Next, finished, wants, goes, place, hitAt, recall, endRound, taken, takeByte, look, next}
 use Rattle.rules.specs.Laws.Tests.{next-cases}
 use Rattle.rules.specs.Laws.Image.{eventsOf}
 use Rattle.scan.specs.Calls.{Answer, found, Hit, noHit, hitOf, hitIn}
@@ -27,7 +27,7 @@ hit-quiet end (suc t) rest = refl
 
 abbrev pub MildNext : {E : Type 0} → Tree E → ℕ → ℕ → Config E → Next E → Type 0
 MildNext tree n M c finished = Unit {0}
-MildNext tree n M c (wants at) = (x : ℕ) → Mild n M c (take tree c x)
+MildNext tree n M c (wants at) = (x : ℕ) → Mild n M c (takeByte tree c x)
 MildNext tree n M c (goes w) = Mild n M c w
 
 module _ {E : Type 0} (tree : Tree E) (n M : ℕ) (near : (v : E) (o : Option ℕ) → tree .shift v o ≤ M) (c : Config E) where

@@ -8,7 +8,7 @@ use mathlib.Core.List.{List, [], _++_}
 use mathlib.Core.Option.{Option, some, none}
 use borrow.Author.Tests.{lt-ltb}
 use Rattle.book.specs.Book.{maxBody}
-use Rattle.rules.specs.Rules.{Config, Event, Step, Next, finished, wants, goes, take, next, follow, trace}
+use Rattle.rules.specs.Rules.{Config, Event, Step, Next, finished, wants, goes, takeByte, next, follow, trace}
 use Rattle.rules.specs.Laws.Limit.Ends.{stepsLeft}
 use Rattle.tables.specs.Tables.{Tables}
 use Rattle.tables.specs.Walks.{ofTables}
@@ -68,7 +68,7 @@ module _ {tokens : List (List ℕ)} {S D : ℕ} {t : Tables} {count n : ℕ} (gi
 
   -- The step that the byte after the first k makes, which is for place `at`.
   abbrev fed : ℕ → ℕ → Config ℕ → Step ℕ
-  fed k at c = take (ofTables t count S) c (ask k at)
+  fed k at c = takeByte (ofTables t count S) c (ask k at)
 
   -- The answers to come at a configuration: if a byte is due, those after it is taken.
   abbrev pub Todo : ℕ → Bool → Config ℕ → List Answer → Type 0
@@ -168,12 +168,12 @@ module _ {tokens : List (List ℕ)} {S D : ℕ} {t : Tables} {count n : ℕ} (gi
         (settle-settles c false k (enough st) (h .0) c s (omega arith) (enough-steps n D (given .short) c) (h .1)))
 
     module _ (todo : List Answer) (h : Todo k true c todo) where
-      supply-is : (x : ℕ) → let w = take (ofTables t count S) c x in
+      supply-is : (x : ℕ) → let w = takeByte (ofTables t count S) c x in
           supply t (stateAt n S count c true k) x ≡ onHit t (stateAt n S count c false (k + 1)) ((n + 2) * (maxBody + 2)) w (hitIn (w .events))
       supply-is x =
           let st = stateAt n S count c true k in
-          let w = take (ofTables t count S) c x in
-          let go : Config ℕ → Stepped = λ c. (let w = take (ofTables t count S) c x in onHit t (counted st) (enough st) w (hitIn (w .events))) in
+          let w = takeByte (ofTables t count S) c x in
+          let go : Config ℕ → Stepped = λ c. (let w = takeByte (ofTables t count S) c x in onHit t (counted st) (enough st) w (hitIn (w .events))) in
           let is : supply t st x ≡ go c =
           ap (onJudged _ _) (judged-turn given c true k s (ap wantsByte (h .2)) true) ∙ ap go (stands given c true k s) in
           let m : min maxSupplied (k + 1) ≡ k + 1 = omega (arith, sat-cap given c k s) in
@@ -182,7 +182,7 @@ module _ {tokens : List (List ℕ)} {S D : ℕ} {t : Tables} {count n : ℕ} (gi
       pub supply-plain : (x : ℕ) → isRefused (supply t (stateAt n S count c true k) x .answer) ≡ false
       supply-plain x =
           let st = stateAt n S count c false (k + 1) in
-          let w = take (ofTables t count S) c x in
+          let w = takeByte (ofTables t count S) c x in
           ap (λ r. isRefused (r .answer)) (supply-is x)
           ∙ hit-plain t st ((n + 2) * (maxBody + 2)) (settle-plain t st ((n + 2) * (maxBody + 2))) w (hitIn (w .events))
 

@@ -4,9 +4,9 @@ use native.Mathlib.Omega.{arith}
 use mathlib.Core.Path.{_≡_, refl, _∙_}
 use mathlib.Core.Option.{Option, some, none}
 use Rattle.book.specs.Book.{maxBody}
-use Rattle.rules.specs.Rules.{Config, Step, Next, finished, wants, goes, place, leftOver, cut, kept, recall, ended, endRound, taken, take, look, next}
+use Rattle.rules.specs.Rules.{Config, Step, Next, finished, wants, goes, place, leftOver, cut, kept, recall, ended, endRound, taken, takeByte, look, next}
 use Rattle.rules.specs.Laws.Tests.{next-cases}
-use Rattle.rules.specs.Laws.All.{All, all-append, all-filter}
+use Rattle.rules.specs.Laws.All.{All, all-append, all-select}
 use Rattle.rules.specs.Laws.Limit.{ended-laid}
 use Rattle.rules.specs.Laws.Limit.Span.{cut-ge, kept-spans, kept-upto}
 use Rattle.rules.specs.Laws.Limit.Ends.{stepsLeft, less-end, less-deeper}
@@ -24,7 +24,7 @@ pub record WithinStep (t : Tables) (count n : ℕ) (c : Config ℕ) (w : Step �
 
 abbrev pub WithinNext : Tables → ℕ → ℕ → ℕ → Config ℕ → Next ℕ → Type 0
 WithinNext t count n S c finished = Unit {0}
-WithinNext t count n S c (wants at) = (x : ℕ) → WithinStep t count n c (take (ofTables t count S) c x)
+WithinNext t count n S c (wants at) = (x : ℕ) → WithinStep t count n c (takeByte (ofTables t count S) c x)
 WithinNext t count n S c (goes w) = WithinStep t count n c w
 
 module _ {t : Tables} {count n S : ℕ} (ready : Ready t count n S) (c : Config ℕ) (w : Within t count n c) where
@@ -34,7 +34,7 @@ module _ {t : Tables} {count n S : ℕ} (ready : Ready t count n S) (c : Config 
       let rest = leftOver from (c .stretches) in
       let k = c .boundary - cut from rest in
       let l = ready .tree .lift (depth t (c .node) - k) (c .node) (w .node) in
-      all-append (Fits t count) rest _ (all-filter (Fits t count) _ (c .stretches) (w .fits))
+      all-append (Fits t count) rest _ (all-select (Fits t count) _ (c .stretches) (w .fits))
       ((l .0, l .1 ∙ omega (arith, w .held .sized, cut-ge from rest)), tt)
 
   end-within : c .boundary ≤ n → (o : Option ℕ) → WithinStep t count n c (endRound (ofTables t count S) c o)
@@ -53,7 +53,7 @@ module _ {t : Tables} {count n S : ℕ} (ready : Ready t count n S) (c : Config 
             spans = kept-spans maxBody (c .boundary) b 0 (ended tree c) moves laid;
           };
           near = omega (arith, shift-upto (words t count) S (ready .positive) (ending t (c .node)) o, ready .first);
-          fits = all-filter (Fits t count) (kept b) (ended tree c) ended-fits;
+          fits = all-select (Fits t count) (kept b) (ended tree c) ended-fits;
           upto = kept-upto maxBody (c .boundary) n 0 (kept b) (ended tree c) i laid;
         };
         early = i;

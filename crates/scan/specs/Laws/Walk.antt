@@ -7,7 +7,7 @@ use mathlib.Core.List.{List, _++_}
 use mathlib.Core.Option.{Option, some, none}
 use lib.ListN.{length, length-drop}
 use Rattle.book.specs.Book.{maxBody, maxBodies, maxImage}
-use Rattle.rules.specs.Rules.{Config, Event, Step, Next, finished, wants, goes, fresh, take, next}
+use Rattle.rules.specs.Rules.{Config, Event, Step, Next, finished, wants, goes, fresh, takeByte, next}
 use Rattle.rules.specs.Tokens.{grown, ofTokens}
 use Rattle.rules.specs.Laws.Setting.{Setting}
 use Rattle.rules.specs.Laws.Limit.{Fine, FineStep, FineNext, next-fine, fresh-fine}
@@ -80,7 +80,7 @@ module _ {tokens : List (List ℕ)} {S D : ℕ} {t : Tables} {count n : ℕ} (gi
 
   abbrev pub SatNext : Config ℕ → ℕ → Next ℕ → Type 0
   SatNext c k finished = n < c .boundary
-  SatNext c k (wants at) = (x : ℕ) → SatStep c (k + 1) (take (ofTables t count S) c x)
+  SatNext c k (wants at) = (x : ℕ) → SatStep c (k + 1) (takeByte (ofTables t count S) c x)
   SatNext c k (goes w) = SatStep c k w
 
   module _ (c : Config ℕ) (k : ℕ) (sat : Sat c k) where

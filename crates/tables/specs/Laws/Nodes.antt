@@ -9,17 +9,17 @@ use borrow.Author.Tests.{eqb-true, eqb-false, lt-ltb, ltb-true}
 use lib.Dec.{eqb, ltb}
 use lib.ListN.{length, getD, take, drop, length-append}
 use lib.Seq.{append-snoc}
-use Rattle.rules.specs.Lists.{same, any, every, least, numberFrom}
+use Rattle.rules.specs.Lists.{same, anyOf, every, least, numberFrom}
 use Rattle.rules.specs.Tokens.{agrees, fromRight, ends, grown, shiftOf, longestOf}
-use Rattle.rules.specs.Laws.Tests.{clash, same-test, not-test, false-test, and-l, and-r, or-r, below-suc, split, any-in, any-out, least-same}
+use Rattle.rules.specs.Laws.Tests.{clash, same-test, not-test, false-test, and-l, and-r, or-r, below-suc, split, anyOf-in, anyOf-out, least-same}
 use Rattle.rules.specs.Laws.Endings.{same-refl, same→eq, ends→front, front→ends, ends-shorter}
 use Rattle.rules.specs.Laws.Lengths.{longest-ge}
 use Rattle.book.specs.Laws.Accepted.{Fit}
 use Rattle.tables.specs.Tables.{Tables}
 use Rattle.tables.specs.Walks.{childBy, ending, depth, lifted, words}
 use Rattle.tables.specs.Laws.Shape.{up, tag, head, Shape, Found, falling, way-lifts, child-found, ending-step, ending-cons, ending-apart}
-use Rattle.tables.specs.Laws.Insert.{num}
-use Rattle.tables.specs.Laws.Build.{Numbered, Facts}
+use Rattle.tables.specs.Laws.TokenAdded.{num}
+use Rattle.tables.specs.Laws.TokensAdded.{Numbered, Facts}
 
 -- a node stands for an ending, or both are missing
 abbrev pub Stand : Tables → ℕ → Option ℕ → Option (List ℕ) → Type 0
@@ -51,15 +51,15 @@ numbered-pos tokens k u (suc m) f j h e = omega arith
 
 module _ (t : Tables) where
   word-in : (p : List ℕ → Bool) (v m : ℕ) (l : List (List ℕ)) → 0 < m → p (ending t v) ≡ true
-      → any p (elim m [ zero ↦ l | suc i ↦ ending t v ∷ l ]) ≡ true
+      → anyOf p (elim m [ zero ↦ l | suc i ↦ ending t v ∷ l ]) ≡ true
   word-in p v zero l h e = absurd (omega arith)
   word-in p v (suc i) l h e = cc
 
-  word-more : (p : List ℕ → Bool) (v m : ℕ) (l : List (List ℕ)) → any p l ≡ true → any p (elim m [ zero ↦ l | suc i ↦ ending t v ∷ l ]) ≡ true
+  word-more : (p : List ℕ → Bool) (v m : ℕ) (l : List (List ℕ)) → anyOf p l ≡ true → anyOf p (elim m [ zero ↦ l | suc i ↦ ending t v ∷ l ]) ≡ true
   word-more p v zero l h = h
   word-more p v (suc i) l h = or-r (p (ending t v)) _ (λ _. h)
 
-  words-in : (p : List ℕ → Bool) (n w : ℕ) → w < n → 0 < num t w → p (ending t w) ≡ true → any p (words t n) ≡ true
+  words-in : (p : List ℕ → Bool) (n w : ℕ) → w < n → 0 < num t w → p (ending t w) ≡ true → anyOf p (words t n) ≡ true
   words-in p zero w h k e = absurd (omega arith)
   words-in p (suc n) w h k e = below-suc w n h
       (λ w<. word-more p n (num t n) (words t n) (words-in p n w w< k e))
@@ -69,30 +69,30 @@ module _ (t : Tables) where
   Word p n = (w : ℕ) × (w < n) × (0 < num t w) × (p (ending t w) ≡ true)
 
   word-out : (p : List ℕ → Bool) (n m : ℕ) (b : Bool) (l : List (List ℕ)) → num t n ≡ m → p (ending t n) ≡ b
-      → (any p l ≡ true → Word p n) → any p (elim m [ zero ↦ l | suc i ↦ ending t n ∷ l ]) ≡ true → Word p (suc n)
+      → (anyOf p l ≡ true → Word p n) → anyOf p (elim m [ zero ↦ l | suc i ↦ ending t n ∷ l ]) ≡ true → Word p (suc n)
   word-out p n zero b l z y f e = let q = f e in (q .0, omega (arith, q .1), q .2, q .3)
   word-out p n (suc i) true l z y f e = (n, omega arith, omega arith, y)
   word-out p n (suc i) false l z y f e = let q = f (rw y at e) in (q .0, omega (arith, q .1), q .2, q .3)
 
-  words-out : (p : List ℕ → Bool) (n : ℕ) → any p (words t n) ≡ true → Word p n
+  words-out : (p : List ℕ → Bool) (n : ℕ) → anyOf p (words t n) ≡ true → Word p n
   words-out p zero e = absurd (clash _ e refl)
   words-out p (suc n) e = word-out p n (num t n) (p (ending t n)) (words t n) refl refl (words-out p n) e
 
-pub shift-same : (a b : List (List ℕ)) → ((p : List ℕ → Bool) → any p a ≡ any p b) → (S : ℕ) (u : List ℕ) (c : Option ℕ) → shiftOf a S u c ≡ shiftOf b S u c
+pub shift-same : (a b : List (List ℕ)) → ((p : List ℕ → Bool) → anyOf p a ≡ anyOf p b) → (S : ℕ) (u : List ℕ) (c : Option ℕ) → shiftOf a S u c ≡ shiftOf b S u c
 shift-same a b f S u none =
-    cc (least-same (λ s. any (λ t. every (length u) (λ k. agrees t s k (fromRight u k))) a) _ (λ s. f _) 1 (S - 1))
+    cc (least-same (λ s. anyOf (λ t. every (length u) (λ k. agrees t s k (fromRight u k))) a) _ (λ s. f _) 1 (S - 1))
 shift-same a b f S u (some x) =
     cc (
-      least-same (λ s. any (λ t. every (length u) (λ k. agrees t s k (fromRight u k))) a) _ (λ s. f _) 1 (S - 1),
-      least-same (λ s. any (λ t. agrees t s (length u) x) a) _ (λ s. f _) 1 (S - 1),
+      least-same (λ s. anyOf (λ t. every (length u) (λ k. agrees t s k (fromRight u k))) a) _ (λ s. f _) 1 (S - 1),
+      least-same (λ s. anyOf (λ t. agrees t s (length u) x) a) _ (λ s. f _) 1 (S - 1),
     )
 
 module _ (tokens : List (List ℕ)) (t : Tables) (n : ℕ) (fs : Facts tokens (length tokens) t n) where
   s : Shape t n
   s = fs .shape
 
-  pub real : (v : ℕ) → 0 < v → v < n → any (ends (ending t v)) tokens ≡ true
-  real v a h = let q = fs .real v a h in any-in (ends (ending t v)) tokens [] (q .0) (q .1) (q .2)
+  pub real : (v : ℕ) → 0 < v → v < n → anyOf (ends (ending t v)) tokens ≡ true
+  real v a h = let q = fs .real v a h in anyOf-in (ends (ending t v)) tokens [] (q .0) (q .1) (q .2)
 
   pub deep : (v : ℕ) → v < n → depth t v ≤ longestOf tokens
   deep v h = split v 0 (λ e. rw e (omega arith))
@@ -114,17 +114,17 @@ module _ (tokens : List (List ℕ)) (t : Tables) (n : ℕ) (fs : Facts tokens (l
       let q = ending-cons t n s w x (y ∷ (f ++ u)) h e in
       child-above (y ∷ f) u (up t w) (omega (arith, s .ups w (q .0) h)) (q .2) (omega arith)
 
-  pub stands : (u : List ℕ) → any (ends u) tokens ≡ true → (w : ℕ) × (w < n) × (ending t w ≡ u)
+  pub stands : (u : List ℕ) → anyOf (ends u) tokens ≡ true → (w : ℕ) × (w < n) × (ending t w ≡ u)
   stands u e =
-      let q = any-out (ends u) tokens [] e in
+      let q = anyOf-out (ends u) tokens [] e in
       let w = fs .node (q .0) (q .1) in
       let y = getD tokens (q .0) [] in
       above (take (length y - length u) y) u (w .0) (w .1) (w .2 ∙ ends→front u y (q .2))
 
   pub child : (v x : ℕ) → v < n → Stand t n (childBy t n v x) (grown tokens (ending t v) x)
-  child v x h = go (childBy t n v x) (child-found t n s v x h) (any (ends (x ∷ ending t v)) tokens) refl
+  child v x h = go (childBy t n v x) (child-found t n s v x h) (anyOf (ends (x ∷ ending t v)) tokens) refl
     where
-      go : (o : Option ℕ) → Found t n v 0 x o → (b : Bool) → any (ends (x ∷ ending t v)) tokens ≡ b
+      go : (o : Option ℕ) → Found t n v 0 x o → (b : Bool) → anyOf (ends (x ∷ ending t v)) tokens ≡ b
           → Stand t n o (elim b [ true ↦ some (x ∷ ending t v) | false ↦ none ])
       go none f true e =
           let w = stands (x ∷ ending t v) e in
@@ -136,9 +136,9 @@ module _ (tokens : List (List ℕ)) (t : Tables) (n : ℕ) (fs : Facts tokens (l
           let q : ending t w ≡ x ∷ ending t v = cc (ending-step t n s w (f .0) (f .1)) in
           clash _ (rw q at (real w (f .0) (f .1))) e
 
-  pub leaf : (v : ℕ) → v < n → eqb (head t v) 0 ≡ not (any (λ u. ltb (length (ending t v)) (length u) && ends (ending t v) u) tokens)
+  pub leaf : (v : ℕ) → v < n → eqb (head t v) 0 ≡ not (anyOf (λ u. ltb (length (ending t v)) (length u) && ends (ending t v) u) tokens)
   leaf v h = not-test (eqb (head t v) 0) _
-      (λ a b. let q = any-out (λ u. ltb (length (ending t v)) (length u) && ends (ending t v) u) tokens [] b in
+      (λ a b. let q = anyOf-out (λ u. ltb (length (ending t v)) (length u) && ends (ending t v) u) tokens [] b in
       let u = getD tokens (q .0) [] in
       let long : length (ending t v) < length u = ltb-true _ _ (and-l (ltb (length (ending t v)) (length u)) (ends (ending t v) u) (q .2)) in
       let f = take (length u - length (ending t v)) u in
@@ -157,7 +157,7 @@ module _ (tokens : List (List ℕ)) (t : Tables) (n : ℕ) (fs : Facts tokens (l
       let e : ending t (head t v) ≡ tag t (head t v) ∷ ending t v = cc (ending-step t n s (head t v) (c .0) (c .1)) in
       let r = rw e at (q .2) in
       let f = take (length u - suc (length (ending t v))) u in
-      any-in (λ u. ltb (length (ending t v)) (length u) && ends (ending t v) u) tokens [] (q .0) (q .1)
+      anyOf-in (λ u. ltb (length (ending t v)) (length u) && ends (ending t v) u) tokens [] (q .0) (q .1)
       (cc (
         lt-ltb (length (ending t v)) (length u) (ends-shorter (tag t (head t v) ∷ ending t v) u r),
         front→ends (f ++ (tag t (head t v) ∷ [])) (ending t v) u
@@ -179,12 +179,12 @@ module _ (tokens : List (List ℕ)) (t : Tables) (n : ℕ) (fs : Facts tokens (l
   lifts = way-lifts t n (falling t n s)
 
   -- the words of the nodes are the tokens
-  pub word : (p : List ℕ → Bool) → any p (words t n) ≡ any p tokens
-  word p = same-test (any p (words t n)) (any p tokens)
+  pub word : (p : List ℕ → Bool) → anyOf p (words t n) ≡ anyOf p tokens
+  word p = same-test (anyOf p (words t n)) (anyOf p tokens)
       (λ e. let q = words-out t p n e in
       let j = numbered-some tokens (length tokens) (ending t (q .0)) (num t (q .0)) (q .2) (fs .numbered (q .0) (q .1)) in
-      any-in p tokens [] (j .0) (j .1) (rw (j .2) (q .3)))
-      (λ e. let q = any-out p tokens [] e in
+      anyOf-in p tokens [] (j .0) (j .1) (rw (j .2) (q .3)))
+      (λ e. let q = anyOf-out p tokens [] e in
       let w = fs .node (q .0) (q .1) in
       words-in t p n (w .0) (w .1)
       (numbered-pos tokens (length tokens) (ending t (w .0)) (num t (w .0)) (fs .numbered (w .0) (w .1)) (q .0) (q .1) (sym (w .2)))

@@ -6,8 +6,8 @@ use mathlib.Core.Bool.{true, false}
 use mathlib.Core.List.{List, [], _∷_, _++_, reverse, reverseAux, reverse-cons, reverse-reverse}
 use lib.ListN.{length, getD, length-append, List·getD-append}
 use lib.Seq.{getD-at}
-use Rattle.rules.specs.Lists.{same, any}
-use Rattle.rules.specs.Laws.Tests.{false-test, below-suc, any-in, any-out}
+use Rattle.rules.specs.Lists.{same, anyOf}
+use Rattle.rules.specs.Laws.Tests.{false-test, below-suc, anyOf-in, anyOf-out}
 use Rattle.rules.specs.Laws.Endings.{same-refl, same→eq}
 use Rattle.tables.specs.Tables.{Tables, endingsOf, notedTokens}
 use Rattle.tables.specs.Walks.{ending}
@@ -20,12 +20,12 @@ pub record Listed (t : Tables) (n : ℕ) (us : List (List ℕ)) : Type 0 where
 
 module _ (t : Tables) (n : ℕ) (us : List (List ℕ)) (l : Listed t n us) where
   -- an ending that some node has, and one that none has
-  pub listed-old : (u : List ℕ) (v : ℕ) → v < n → ending t v ≡ u → any (same u) us ≡ true
-  listed-old u v h e = any-in (same u) us [] v (omega (arith, l .size)) (rw (l .at v h, e) (same-refl u))
+  pub listed-old : (u : List ℕ) (v : ℕ) → v < n → ending t v ≡ u → anyOf (same u) us ≡ true
+  listed-old u v h e = anyOf-in (same u) us [] v (omega (arith, l .size)) (rw (l .at v h, e) (same-refl u))
 
-  pub listed-new : (u : List ℕ) → ((v : ℕ) → v < n → ending t v ≡ u → ⊥) → any (same u) us ≡ false
-  listed-new u d = false-test (any (same u) us) (λ e.
-      let q = any-out (same u) us [] e in
+  pub listed-new : (u : List ℕ) → ((v : ℕ) → v < n → ending t v ≡ u → ⊥) → anyOf (same u) us ≡ false
+  listed-new u d = false-test (anyOf (same u) us) (λ e.
+      let q = anyOf-out (same u) us [] e in
       let h : q .0 < n = omega (arith, q .1, l .size) in
       d (q .0) h (sym (l .at (q .0) h) ∙ sym (same→eq u (getD us (q .0) []) (q .2))))
 

@@ -9,15 +9,15 @@ use mathlib.Core.Option.{Option, none}
 use lib.Dec.{eqb, ltb}
 use lib.ListN.{length, getD, drop, length-append, List·getD-append}
 use lib.Seq.{take-length}
-use Rattle.rules.specs.Lists.{any, numberFrom}
+use Rattle.rules.specs.Lists.{anyOf, numberFrom}
 use Rattle.rules.specs.Tokens.{ends, fromRight, grown, shiftOf, total, longestOf}
 use Rattle.book.specs.Laws.Accepted.{Fit}
 use Rattle.tables.specs.Tables.{Tables, nodes, built, Lent, shortestTable}
-use Rattle.tables.specs.Laws.Growth.{insertedAll}
+use Rattle.tables.specs.Laws.Inserted.{insertedAll}
 use Rattle.tables.specs.Walks.{childBy, ending, depth, words, ofTables}
 use Rattle.tables.specs.Broken.{broken}
 use Rattle.tables.specs.Laws.Shape.{ending-step, ending-apart}
-use Rattle.tables.specs.Laws.Build.{Facts, facts-agree, built-facts}
+use Rattle.tables.specs.Laws.TokensAdded.{Facts, facts-agree, built-facts}
 use Rattle.tables.specs.Laws.Nodes.{Stand, real, deep, stands, child, leaf, bytes, lifts, word, shift-same, token}
 use Rattle.tables.specs.Laws.Sound.{fine}
 use Rattle.tables.specs.Laws.Same.{inserted-built}
@@ -33,18 +33,18 @@ pub record Represents (t : Tables) (count : ℕ) (tokens : List (List ℕ)) : Ty
   pub root-up : getD (t .parent) 0 0 ≡ 0
   pub up : (v : ℕ) → 0 < v → v < count → getD (t .parent) v 0 < v
   pub step : (v : ℕ) → 0 < v → v < count → ending t v ≡ getD (t .label) v 0 ∷ ending t (getD (t .parent) v 0)
-  pub real : (v : ℕ) → 0 < v → v < count → any (ends (ending t v)) tokens ≡ true
+  pub real : (v : ℕ) → 0 < v → v < count → anyOf (ends (ending t v)) tokens ≡ true
   pub deep : (v : ℕ) → v < count → depth t v ≤ longestOf tokens
   pub named : (v : ℕ) → v < count → getD (nodes tokens) v [] ≡ ending t v
   -- each ending of a token is that of one node
-  pub stands : (u : List ℕ) → any (ends u) tokens ≡ true → (w : ℕ) × (w < count) × (ending t w ≡ u)
+  pub stands : (u : List ℕ) → anyOf (ends u) tokens ≡ true → (w : ℕ) × (w < count) × (ending t w ≡ u)
   pub apart : (v w : ℕ) → v < count → w < count → ending t v ≡ ending t w → v ≡ w
   -- the rules' tree, by tables and by tokens
   pub child : (v x : ℕ) → v < count → Stand t count (childBy t count v x) (grown tokens (ending t v) x)
   pub leaf : (v : ℕ) → v < count
-      → eqb (getD (t .first) v 0) 0 ≡ not (any (λ u. ltb (length (ending t v)) (length u) && ends (ending t v) u) tokens)
+      → eqb (getD (t .first) v 0) 0 ≡ not (anyOf (λ u. ltb (length (ending t v)) (length u) && ends (ending t v) u) tokens)
   pub token : (v : ℕ) → v < count → getD (t .token) v 0 ≡ numberFrom 1 (ending t v) tokens
-  pub words-any : (p : List ℕ → Bool) → any p (words t count) ≡ any p tokens
+  pub words-any : (p : List ℕ → Bool) → anyOf p (words t count) ≡ anyOf p tokens
   pub shift : (shortest : ℕ) (u : List ℕ) (closing : Option ℕ) → shiftOf (words t count) shortest u closing ≡ shiftOf tokens shortest u closing
   pub byteAt : (shortest v k : ℕ) → v < count → k < depth t v → ofTables t count shortest .byteAt v k ≡ fromRight (ending t v) k
   pub ancestor : (shortest v k : ℕ) → v < count → k ≤ depth t v

@@ -12,10 +12,10 @@ use Rattle.rules.specs.Laws.Endings.{same-refl, same→eq}
 use Rattle.book.specs.Laws.Accepted.{Fit}
 use Rattle.tables.specs.Tables.{Tables, nodes, labelOf, above, isChild, childFrom, siblingFrom, siblings, built}
 use Rattle.tables.specs.Walks.{ending}
-use Rattle.tables.specs.Laws.Growth.{insertedAll}
+use Rattle.tables.specs.Laws.Inserted.{insertedAll}
 use Rattle.tables.specs.Laws.Shape.{alike, up, tag, head, sib, Link, Shape, ending-step, ending-apart}
 use Rattle.tables.specs.Laws.Order.{Listed}
-use Rattle.tables.specs.Laws.Build.{built-facts}
+use Rattle.tables.specs.Laws.TokensAdded.{built-facts}
 use Rattle.tables.specs.Laws.Nodes.{number-at, token}
 
 map-at : (f : List ℕ → ℕ) (us : List (List ℕ)) (v : ℕ) → v < length us → getD (map f us) v 0 ≡ f (getD us v [])

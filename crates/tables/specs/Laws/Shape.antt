@@ -11,7 +11,7 @@ use lib.Seq.{drop-nil}
 use Rattle.rules.specs.Laws.Tests.{decide, split}
 use Rattle.tables.specs.Tables.{Tables}
 use Rattle.tables.specs.Walks.{along, childBy, climb, ending, lifted}
-use Rattle.tables.specs.Laws.Growth.{lastOf}
+use Rattle.tables.specs.Laws.Inserted.{lastOf}
 
 -- tables are their five lists
 pub alike : (t u : Tables) → t .parent ≡ u .parent → t .label ≡ u .label → t .token ≡ u .token → t .first ≡ u .first → t .next ≡ u .next → t ≡ u

@@ -16,8 +16,8 @@ use Rattle.tables.specs.Tables.{Tables, shortestTable}
 use Rattle.tables.specs.Walks.{ending, depth}
 use Rattle.tables.specs.Broken.{maxNumber, linked, links, sound, firstBreak, broken, maxDepth}
 use Rattle.tables.specs.Laws.Shape.{up, head, sib, Shape}
-use Rattle.tables.specs.Laws.Insert.{num}
-use Rattle.tables.specs.Laws.Build.{Numbered, Facts}
+use Rattle.tables.specs.Laws.TokenAdded.{num}
+use Rattle.tables.specs.Laws.TokensAdded.{Numbered, Facts}
 
 numbered-le : (tokens : List (List ℕ)) (k : ℕ) (u : List ℕ) (m : ℕ) → Numbered tokens k u m → m ≤ k
 numbered-le tokens k u zero f = omega arith

@@ -10,8 +10,8 @@ use Rattle.book.specs.Book.{Reading, accepted, refused, Totals, totalsOf, summa
 use Rattle.book.specs.Laws.Accepted.{accepted-fit}
 use Rattle.tables.specs.Tables.{Tables, shortestTable, tooShort, written, built, build}
 use Rattle.trie.specs.InPlace.{Room, Counted, filled}
-use Rattle.tables.specs.Laws.Building.{sizesOf, answerTo}
-use Rattle.trie.specs.Laws.Fill.{Fillable}
+use Rattle.tables.specs.Laws.Made.{sizesOf, answerTo}
+use Rattle.trie.specs.Laws.TokensInPlace.{Fillable}
 
 -- The book is accepted, and these are its totals.
 pub record Summed (book : List ℕ) (totals : Totals) : Type 0 where

@@ -12,7 +12,7 @@ use Rattle.tables.specs.Walks.{along, childBy}
 use Rattle.trie.specs.Chain.{walked}
 use Rattle.trie.specs.declared.chain.Way.{Way}
 use Rattle.trie.specs.declared.chain.Way.the-variants.{Found, Ends}
-use Rattle.tables.specs.Laws.Growth.{lastOf}
+use Rattle.tables.specs.Laws.Inserted.{lastOf}
 use Rattle.tables.specs.Laws.Shape.{tag, head, sib, Shape}
 
 module _ (label next : List ℕ) (x : ℕ) where

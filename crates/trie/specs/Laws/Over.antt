@@ -8,8 +8,8 @@ use lib.Seq.{length-take-le, take-at, drop-append-add, drop-drop, append-snoc, s
 use Rattle.tables.specs.Tables.{Tables, over, written}
 use Rattle.trie.specs.InPlace.{Room, cut}
 use Rattle.tables.specs.Laws.Shape.{alike, Shape}
-use Rattle.tables.specs.Laws.Grow.{Sized}
-use Rattle.tables.specs.Laws.Build.{shape-agree}
+use Rattle.tables.specs.Laws.NodeAdded.{Sized}
+use Rattle.tables.specs.Laws.TokensAdded.{shape-agree}
 
 -- the lists are as long as they were
 pub record Kept (t t′ : Tables) : Type 0 where

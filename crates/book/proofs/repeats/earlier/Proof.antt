@@ -6,7 +6,7 @@ use mathlib.Core.Bool.{Bool, true, false}
 use mathlib.Core.List.{List, [], _∷_}
 use mathlib.Core.Path.{_≡_, refl, sym, _∙_}
 use lib.ListN.{length, take, drop}
-use Rattle.rules.specs.Lists.{any, same}
+use Rattle.rules.specs.Lists.{anyOf, same}
 use Rattle.rules.specs.Tokens.{total}
 use Rattle.book.specs.Book.{wholeAt}
 use Rattle.book.specs.Laws.Taken.{whole-inside}
@@ -20,7 +20,7 @@ module _ (book body : List ℕ) (at : ℕ) (answer : Bool) where
     left : List (List ℕ)
     records : Records book p left
     place : at ≡ p + length left + total left
-    tells : answer ≡ any (same body) left
+    tells : answer ≡ anyOf (same body) left
 
   -- After the record at p, of n body bytes: whether it has the body says the answer, or leaves it to the rest.
   abbrev After : ℕ → Bool → Type 0
@@ -31,7 +31,7 @@ module _ (book body : List ℕ) (at : ℕ) (answer : Bool) where
       → b ≡ same body (take (p + 1 + n - (p + 1)) (drop (p + 1) book)) → After (p + 1 + n) b
   after p n h e r b q = go (r .left) (r .records) (r .place) (r .tells) b q
     where
-      go : (left : List (List ℕ)) → Records book p left → at ≡ p + length left + total left → answer ≡ any (same body) left → (b : Bool)
+      go : (left : List (List ℕ)) → Records book p left → at ≡ p + length left + total left → answer ≡ anyOf (same body) left → (b : Bool)
           → b ≡ same body (take (p + 1 + n - (p + 1)) (drop (p + 1) book)) → After (p + 1 + n) b
       go [] r z a b q = absurd (omega arith)
       go (t ∷ left) r z a b q =
@@ -46,12 +46,12 @@ module _ (book body : List ℕ) (at : ℕ) (answer : Bool) where
   none : (p : ℕ) → at ≤ p → Rest p → false ≡ answer
   none p h r = go (r .left) (r .place) (r .tells)
     where
-      go : (left : List (List ℕ)) → at ≡ p + length left + total left → answer ≡ any (same body) left → false ≡ answer
+      go : (left : List (List ℕ)) → at ≡ p + length left + total left → answer ≡ anyOf (same body) left → false ≡ answer
       go [] z a = sym a
       go (t ∷ left) z a = absurd (omega arith)
 
 abbrev Inv-loop : tie.InvT-loop
-Inv-loop book at body p₀ p = (ts : List (List ℕ)) → Upto book at ts → Rest book body at (any (same body) ts) p
+Inv-loop book at body p₀ p = (ts : List (List ℕ)) → Upto book at ts → Rest book body at (anyOf (same body) ts) p
 
 abbrev μ-loop : tie.MeasureT-loop
 μ-loop book at body p₀ p = at - p

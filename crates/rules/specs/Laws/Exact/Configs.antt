@@ -11,7 +11,7 @@ use lib.ListN.{length, length-drop}
 use Rattle.rules.specs.Rules.{Stretch, Config, leftOver, cut, kept, recall, ended, endRound}
 use Rattle.rules.specs.Tokens.{ofTokens}
 use Rattle.rules.specs.Laws.Tests.{decide, and-l, and-r}
-use Rattle.rules.specs.Laws.All.{All, all-map, all-append, all-filter}
+use Rattle.rules.specs.Laws.All.{All, all-map, all-append, all-select}
 use Rattle.rules.specs.Laws.Limit.Span.{cut-ge, cut-upto}
 use Rattle.rules.specs.Laws.Exact.Reads.{Reads, reads-drop}
 use Rattle.rules.specs.Laws.Exact.Shift.{Known}
@@ -55,7 +55,7 @@ module _ (img : ℕ → ℕ) where
         rest = leftOver (c .boundary - c .depth) (c .stretches)
 
         old : All (Holds (c .boundary)) rest
-        old = all-filter (Holds (c .boundary)) _ (c .stretches) (v .holds)
+        old = all-select (Holds (c .boundary)) _ (c .stretches) (v .holds)
 
         from : ℕ
         from = cut (c .boundary - c .depth) rest
@@ -80,5 +80,5 @@ module _ (img : ℕ → ℕ) where
       holds =
           let b′ = endRound (ofTokens tokens S) c o .config .boundary in
           let ss = ended (ofTokens tokens S) c in
-          all-filter (Holds b′) (kept b′) ss (all-map _ _ (holds-later (c .boundary) b′ (omega arith)) ss (ended-holds D c v));
+          all-select (Holds b′) (kept b′) ss (all-map _ _ (holds-later (c .boundary) b′ (omega arith)) ss (ended-holds D c v));
     }

@@ -9,13 +9,13 @@ use mathlib.Core.Option.{Option, some, none}
 use borrow.Author.Tests.{leb-false, eq-eqb}
 use lib.Dec.{leb}
 use lib.ListN.{length, getD}
-use Rattle.rules.specs.Lists.{any, every}
+use Rattle.rules.specs.Lists.{anyOf, every}
 use Rattle.rules.specs.Tokens.{agrees, fromRight, nodeShift, byteShift, shiftOf}
-use Rattle.rules.specs.Laws.Tests.{any-in, every-all, or-r, least-le, least-ge, least-upto}
+use Rattle.rules.specs.Laws.Tests.{anyOf-in, every-all, or-r, least-le, least-ge, least-upto}
 use Rattle.rules.specs.Laws.Exact.Reads.{Reads}
 
 pub shift-ge : (tokens : List (List ℕ)) (S : ℕ) (u : List ℕ) (o : Option ℕ) → 1 ≤ shiftOf tokens S u o
-shift-ge tokens S u o = omega (arith, least-ge (λ s. any (λ t. every (length u) (λ k. agrees t s k (fromRight u k))) tokens) 1 (S - 1))
+shift-ge tokens S u o = omega (arith, least-ge (λ s. anyOf (λ t. every (length u) (λ k. agrees t s k (fromRight u k))) tokens) 1 (S - 1))
 
 pub shift-upto : (tokens : List (List ℕ)) (S : ℕ) → 1 ≤ S → (u : List ℕ) (o : Option ℕ) → shiftOf tokens S u o ≤ S
 shift-upto tokens S h u o = omega (arith, node, byte o)
@@ -44,12 +44,12 @@ module _ (img : ℕ → ℕ) where
     node-le : (u : List ℕ) → Reads img u b → nodeShift tokens S u ≤ e - b
     node-le u q =
         least-le _ 1 (S - 1) (e - b) (omega arith)
-        (any-in _ tokens [] i i< (every-all (length u) _ λ k k<. agrees-read (getD tokens i []) b e k (fromRight u k) r h (q k k<)))
+        (anyOf-in _ tokens [] i i< (every-all (length u) _ λ k k<. agrees-read (getD tokens i []) b e k (fromRight u k) r h (q k k<)))
 
     byte-le : (d : ℕ) (o : Option ℕ) → Known (b - 1 - d) o → byteShift tokens S d o ≤ e - b
     byte-le d none q = omega arith
     byte-le d (some x) q =
-        least-le _ 1 (S - 1) (e - b) (omega arith) (any-in _ tokens [] i i< (agrees-read (getD tokens i []) b e d x r h q))
+        least-le _ 1 (S - 1) (e - b) (omega arith) (anyOf-in _ tokens [] i i< (agrees-read (getD tokens i []) b e d x r h q))
 
     pub shift-le : (u : List ℕ) (o : Option ℕ) → Reads img u b → Known (b - 1 - length u) o → shiftOf tokens S u o ≤ e - b
     shift-le u o q k = omega (arith, node-le u q, byte-le (length u) o k)

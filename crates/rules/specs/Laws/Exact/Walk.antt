@@ -8,11 +8,11 @@ use mathlib.Core.Option.{Option, some, none}
 use borrow.Author.Tests.{leb-true, lt-ltb, ne-eqb}
 use lib.Dec.{ltb, eqb}
 use lib.ListN.{length, getD}
-use Rattle.rules.specs.Rules.{Event, recalled, shifted, Config, Step, Next, finished, wants, goes, place, hitAt, deeper, recall, endRound, taken, take, look, next}
+use Rattle.rules.specs.Rules.{Event, recalled, shifted, Config, Step, Next, finished, wants, goes, place, hitAt, deeper, recall, endRound, taken, takeByte, look, next}
 use Rattle.rules.specs.Tokens.{ofTokens, ends}
-use Rattle.rules.specs.Lists.{any, numberFrom}
+use Rattle.rules.specs.Lists.{anyOf, numberFrom}
 use Rattle.rules.specs.Sweep.{Stands}
-use Rattle.rules.specs.Laws.Tests.{decide, clash, and-l, any-in, any-out, next-cases}
+use Rattle.rules.specs.Laws.Tests.{decide, clash, and-l, anyOf-in, anyOf-out, next-cases}
 use Rattle.rules.specs.Laws.Endings.{Numbered, numbered}
 use Rattle.rules.specs.Laws.Setting.{Setting}
 use Rattle.rules.specs.Laws.Limit.Ends.{stepsLeft, less-end, less-deeper}
@@ -31,7 +31,7 @@ module _ (tokens : List (List ℕ)) (S D : ℕ) (setting : Setting tokens S D) (
   -- what the next step has to be
   abbrev pub NextGood : Config (List ℕ) → Next (List ℕ) → Type 0
   NextGood c finished = length image < c .boundary
-  NextGood c (wants at) = StepGood tokens D image c (take (ofTokens tokens S) c (byteOf image at))
+  NextGood c (wants at) = StepGood tokens D image c (takeByte (ofTokens tokens S) c (byteOf image at))
   NextGood c (goes s) = StepGood tokens D image c s
 
   module _ (c : Config (List ℕ)) (v : Inv (byteOf image) D c) (h : c .boundary ≤ length image) where
@@ -74,7 +74,7 @@ module _ (tokens : List (List ℕ)) (S D : ℕ) (setting : Setting tokens S D) (
         let no-more : c .depth < length (getD tokens i []) → ⊥ = λ k.
         clash _ t
         (cc (
-          any-in (λ t. ltb (length (c .node)) (length t) && ends (c .node) t) tokens [] i (s .numbered)
+          anyOf-in (λ t. ltb (length (c .node)) (length t) && ends (c .node) t) tokens [] i (s .numbered)
               (cc (
                 lt-ltb (length (c .node)) (length (getD tokens i [])) (omega (arith, v .deep)),
                 ends-here (c .node) (v .reads) i s (omega (arith, v .deep)),
@@ -122,11 +122,11 @@ module _ (tokens : List (List ℕ)) (S D : ℕ) (setting : Setting tokens S D) (
           good-hit tokens image setting (c .boundary) (c .depth) m rest
           (reads→stands tokens image (c .boundary) m (omega (arith, q .1)) (omega arith) h (rw t grown-reads)) l g
 
-      take-good : StepGood tokens D image c (take (ofTokens tokens S) c x)
+      take-good : StepGood tokens D image c (takeByte (ofTokens tokens S) c x)
       take-good =
-          decide (λ o. StepGood tokens D image c (taken (ofTokens tokens S) c x o)) (any (ends (x ∷ c .node)) tokens) _ _
+          decide (λ o. StepGood tokens D image c (taken (ofTokens tokens S) c x o)) (anyOf (ends (x ∷ c .node)) tokens) _ _
           (λ t.
-          let r = any-out (ends (x ∷ c .node)) tokens [] t in
+          let r = anyOf-out (ends (x ∷ c .node)) tokens [] t in
           let w = deeper-inv (r .0) (r .1) (r .2) in
           record {
             inv = w;
@@ -135,7 +135,7 @@ module _ (tokens : List (List ℕ)) (S D : ℕ) (setting : Setting tokens S D) (
           })
           (λ f. end-good (some x) x≡ λ i s.
           let no-more : c .depth < length (getD tokens i []) → ⊥ = λ k.
-          clash _ (any-in (ends (x ∷ c .node)) tokens [] i (s .numbered) (ends-here (x ∷ c .node) grown-reads i s (omega (arith, v .deep)))) f in
+          clash _ (anyOf-in (ends (x ∷ c .node)) tokens [] i (s .numbered) (ends-here (x ∷ c .node) grown-reads i s (omega (arith, v .deep)))) f in
           omega arith)
 
     look-good : c .depth < c .boundary → (o : Option ℕ) → Known (byteOf image) (place c) o → NextGood c (look (ofTokens tokens S) c o)

@@ -10,7 +10,7 @@ use lib.ListN.{length}
 use native.Mathlib.Omega.{arith}
 use borrow.Author.Tests.{leb-false, ltb-true, ltb-false}
 use Rattle.rules.specs.Rules.{Tree, Stretch, recall, leftOver, cut, kept}
-use Rattle.rules.specs.Lists.{filter}
+use Rattle.rules.specs.Lists.{select}
 use Rattle.rules.specs.Laws.Tests.{decide, and-n}
 use Rattle.rules.specs.Laws.Limit.Span.{Spans, Laid}
 
@@ -35,7 +35,7 @@ module _ {E : Type 0} where
   worth-cap D b lo [] h = omega arith
   worth-cap D b lo (s ∷ ss) h = omega (arith, worth-cap D b (s .right) ss (h .4))
 
-  pub worth-kept : (b : ℕ) (ss : List (Stretch E)) → worth b ss ≤ worth b (filter (kept b) ss)
+  pub worth-kept : (b : ℕ) (ss : List (Stretch E)) → worth b ss ≤ worth b (select (kept b) ss)
   worth-kept b [] = omega arith
   worth-kept b (s ∷ ss) =
       decide (λ r. worth b (s ∷ ss) ≤ worth b r) (kept b s) _ _

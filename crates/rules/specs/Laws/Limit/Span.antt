@@ -9,9 +9,9 @@ use native.Mathlib.Nat.{pow-suc, pow-le-pow-right, lt-of-not-le}
 use native.Mathlib.Omega.{arith}
 use borrow.Author.Tests.{leb-true}
 use Rattle.rules.specs.Rules.{Stretch, leftOver, cut, kept}
-use Rattle.rules.specs.Lists.{filter}
+use Rattle.rules.specs.Lists.{select}
 use Rattle.rules.specs.Laws.Tests.{decide}
-use Rattle.rules.specs.Laws.All.{All, all-filter}
+use Rattle.rules.specs.Laws.All.{All, all-select}
 
 pub cut-ge : {E : Type 0} (q : ℕ) (ss : List (Stretch E)) → q ≤ cut q ss
 cut-ge q [] = omega arith
@@ -59,7 +59,7 @@ module _ {E : Type 0} (D : ℕ) where
   spans-upto b lo (s ∷ ss) h = (omega (arith, h .1), spans-upto b (s .right) ss (h .4))
 
   pub cut-le : (b q lo : ℕ) (ss : List (Stretch E)) → q ≤ b → Spans b lo ss → cut q (leftOver q ss) ≤ b
-  cut-le b q lo ss i h = cut-upto q b (leftOver q ss) i (all-filter (λ s. s .right ≤ b) _ ss (spans-upto b lo ss h))
+  cut-le b q lo ss i h = cut-upto q b (leftOver q ss) i (all-select (λ s. s .right ≤ b) _ ss (spans-upto b lo ss h))
 
   -- Rule 4 leaves its stretches laid,
   pub laid : (b q from lo : ℕ) (e : E) (ss : List (Stretch E)) → from ≤ b → b ≤ from + D → lo ≤ from → Spans b lo ss
@@ -72,14 +72,14 @@ module _ {E : Type 0} (D : ℕ) where
       (λ t c. laid b q from lo e ss i j k (lower b (s .right) lo ss (omega arith) (h .4)) c)
 
   -- and rule 6 makes spans of them.
-  pub kept-spans : (b b′ lo : ℕ) (ss : List (Stretch E)) → b < b′ → Laid b lo ss → Spans b′ lo (filter (kept b′) ss)
+  pub kept-spans : (b b′ lo : ℕ) (ss : List (Stretch E)) → b < b′ → Laid b lo ss → Spans b′ lo (select (kept b′) ss)
   kept-spans b b′ lo [] i h = tt
   kept-spans b b′ lo (s ∷ ss) i h =
       decide (Spans b′ lo) (kept b′ s) _ _
       (λ t. (h .0, omega arith, h .3, omega (arith, leb-true), kept-spans b b′ (s .right) ss i (h .4)))
-      (λ t. lower b′ (s .right) lo (filter (kept b′) ss) (omega arith) (kept-spans b b′ (s .right) ss i (h .4)))
+      (λ t. lower b′ (s .right) lo (select (kept b′) ss) (omega arith) (kept-spans b b′ (s .right) ss i (h .4)))
 
-  pub kept-upto : (b n lo : ℕ) (p : Stretch E → Bool) (ss : List (Stretch E)) → b ≤ n → Laid b lo ss → Upto n (filter p ss)
+  pub kept-upto : (b n lo : ℕ) (p : Stretch E → Bool) (ss : List (Stretch E)) → b ≤ n → Laid b lo ss → Upto n (select p ss)
   kept-upto b n lo p [] i h = tt
   kept-upto b n lo p (s ∷ ss) i h =
       let r = kept-upto b n (s .right) p ss i (h .4) in

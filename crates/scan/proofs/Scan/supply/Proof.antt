@@ -2,7 +2,7 @@
 use borrow.Author.Needs.{needs}
 use Rattle.tables.specs.Tables.{Tables}
 use Rattle.trie.specs.Answers.{tables}
-use Rattle.scan.proofs.Judging.{supply-refused, counted-steady, taken-steady, taken-due, supply-settles, supply-hits}
+use Rattle.scan.proofs.JudgeCalls.{supply-refused, counted-steady, taken-steady, taken-due, supply-settles, supply-hits}
 use Rattle.scan.proofs.Scan.supply.Statement.{statement}
 use Rattle.scan.proofs.Scan.supply.Tie as tie
 
@@ -21,8 +21,8 @@ enum-told c = search needs
 count-byte-requires : tie.Need-count-byte-requires
 count-byte-requires c κs = search needs
 
-take-requires : tie.Need-take-requires
-take-requires c κs =
+take-byte-requires : tie.Need-take-byte-requires
+take-byte-requires c κs =
     let s = c .before .before .before .before .before .before .before .before .before in
     let k = c .before .before .before .judge in
     let n = c .count-byte in
@@ -37,7 +37,7 @@ settle-requires c κs =
     let k = c .before .before .before .before .before .before .before .judge in
     let e = c .before .before .before .before .before .enum-told .given .1 in
     let n = c .before .before .before .before .count-byte in
-    let r = c .before .before .before .take in (
+    let r = c .before .before .before .take-byte in (
       taken-steady (lent s) (s .args .self) (s .args .byte) (k .result) e (k .ensures) (n .result) (n .ensures) (r .result) (r .ensures),
       taken-due (lent s) (s .args .self) (s .args .byte) (k .result) e (k .ensures) (n .result) (n .ensures) (r .result) (r .ensures),
     )
@@ -58,7 +58,7 @@ returns-2 c =
     let k = c .before .before .before .before .before .before .before .before .judge in
     let e = c .before .before .before .before .before .before .enum-told .given .1 in
     let n = c .before .before .before .before .before .count-byte in
-    let r = c .before .before .before .before .take in
+    let r = c .before .before .before .before .take-byte in
     supply-settles (lent s) (s .args .self) (s .args .byte) (k .result) e (k .ensures) (n .result) (n .ensures) (r .result) (r .ensures)
     (c .before .enum-told2 .given .1) (c .settle .result) (c .settle .ensures)
 
@@ -68,7 +68,7 @@ returns-3 c =
     let k = c .before .before .before .before .before .before .before .before .judge in
     let e = c .before .before .before .before .before .before .enum-told .given .1 in
     let n = c .before .before .before .before .before .count-byte in
-    let r = c .before .before .before .before .take in
+    let r = c .before .before .before .before .take-byte in
     let f = c .before .found .given in
     supply-hits (lent s) (s .args .self) (s .args .byte) (k .result) e (k .ensures) (n .result) (n .ensures) (r .result) (r .ensures)
     (f .0 .0) (f .0 .1 .0) (f .1)
@@ -81,7 +81,7 @@ supply-spec =
     enum-known-answer
     enum-told
     count-byte-requires
-    take-requires
+    take-byte-requires
     enum-told-2
     settle-requires
     enum-known-found

@@ -9,7 +9,7 @@ use Rattle.trie.specs.Answers.{tables}
 use Rattle.scan.specs.declared.steps.Move.{Move}
 use Rattle.scan.specs.declared.steps.Move.the-variants.{Finished, Wants, End, Take}
 use Rattle.scan.specs.Steps.{Chosen}
-use Rattle.scan.proofs.Settling.{Runs, Onwards, begins, runs-steady, runs-over, runs-wants, runs-ends, takes-on, takes-hit}
+use Rattle.scan.proofs.StepsSettle.{Runs, Onwards, begins, runs-steady, runs-over, runs-wants, runs-ends, takes-on, takes-hit}
 use Rattle.scan.proofs.steps.settle.Statement.{statement}
 use Rattle.scan.proofs.steps.settle.Tie as tie
 
@@ -44,10 +44,10 @@ ends c = let d = c .before .before .before in
 goes : (c : tie.After-enum-told3 Inv-loop μ-loop)
     → Onwards (lent (start (c .before .before .before .before .before .before .before .before)))
     (start (c .before .before .before .before .before .before .before .before) .args .scan)
-    (c .before .before .before .before .before .before .before .before .loop .at) (c .before .before .before .take .result .state)
+    (c .before .before .before .before .before .before .before .before .loop .at) (c .before .before .before .take-byte .result .state)
 goes c = let x = c .before .before .before .before .before .x .given in
     let d = c .before .before .before .before .before .before .before in
-    let r = c .before .before .before .take in
+    let r = c .before .before .before .take-byte in
     takes-on (start (d .before) .pre .0) (d .before .loop .inv) (x .0 .0) (chosen d (Take (x .0 .0)) (x .1)) (r .result) (r .ensures)
     (c .enum-told3 .given .1)
 
@@ -89,8 +89,8 @@ loop-again c = ends c .0
 enum-known-x : tie.Need-enum-known-x Inv-loop μ-loop
 enum-known-x c = search needs
 
-take-requires : tie.Need-take-requires Inv-loop μ-loop
-take-requires c κs = let l = c .before .before .before .before in runs-steady (start l .pre .0) (l .loop .inv)
+take-byte-requires : tie.Need-take-byte-requires Inv-loop μ-loop
+take-byte-requires c κs = let l = c .before .before .before .before in runs-steady (start l .pre .0) (l .loop .inv)
 
 enum-told-3 : tie.Need-enum-told-3 Inv-loop μ-loop
 enum-told-3 c = search needs
@@ -107,7 +107,7 @@ enum-known-found c = search needs
 returns-3 : tie.Need-returns-3 Inv-loop μ-loop
 returns-3 c = let x = c .before .before .before .before .before .before .x .given in
     let d = c .before .before .before .before .before .before .before .before in
-    let r = c .before .before .before .before .take in
+    let r = c .before .before .before .before .take-byte in
     let f = c .before .found .given in
     takes-hit (start (d .before) .pre .0) (d .before .loop .inv) (x .0 .0) (chosen d (Take (x .0 .0)) (x .1)) (r .result) (r .ensures)
     (f .0 .0) (f .0 .1 .0) (f .1)
@@ -129,7 +129,7 @@ settle-spec =
     loop-less
     loop-again
     enum-known-x
-    take-requires
+    take-byte-requires
     enum-told-3
     loop-less-2
     loop-again-2

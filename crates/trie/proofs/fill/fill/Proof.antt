@@ -8,7 +8,7 @@ use Rattle.tables.specs.Tables.{Tables}
 use Rattle.trie.specs.Answers.{tables}
 use Rattle.trie.specs.InPlace.{Room, Ready}
 use Rattle.trie.specs.Laws.Over.{Kept}
-use Rattle.trie.specs.Laws.Fill.{Filling, rooted, fill-room, fill-kept, fill-first, fill-ready, fill-on, fill-done}
+use Rattle.trie.specs.Laws.TokensInPlace.{Filling, rooted, fill-room, fill-kept, fill-first, fill-ready, fill-on, fill-done}
 use Rattle.trie.proofs.fill.fill.Statement.{statement}
 use Rattle.trie.proofs.fill.fill.Tie as tie
 

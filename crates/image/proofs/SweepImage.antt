@@ -11,7 +11,7 @@ use Rattle.rules.specs.Laws.Tests.{decide}
 use Rattle.book.specs.Book.{Verdict, Reading, accepted, refused, Totals, summary, readBook, maxImage}
 use Rattle.book.specs.Laws.Accepted.{accepted-fit}
 use Rattle.tables.specs.Tables.{Tables, nodes, built, Lent, written, tooShort, shortestTable, Sizes, Building, build}
-use Rattle.tables.specs.Laws.Building.{sizesOf, written-lent, answerTo}
+use Rattle.tables.specs.Laws.Made.{sizesOf, written-lent, answerTo}
 use Rattle.trie.specs.Laws.Answer.{Summed}
 use Rattle.tables.specs.Laws.Represents.{built-represents}
 use Rattle.image.specs.Image.{Swept, tooLong, room, hitsOf, fetchesOf, counted, noted, sweepImage}

@@ -5,7 +5,7 @@ use mathlib.Core.Path.{_≡_, refl, ap, sym, subst, _∙_}
 use mathlib.Core.Bool.{Bool, true, false}
 use mathlib.Core.Option.{none}
 use Rattle.book.specs.Book.{maxBody}
-use Rattle.rules.specs.Rules.{Config, Step, Next, finished, wants, goes, endRound, take, next}
+use Rattle.rules.specs.Rules.{Config, Step, Next, finished, wants, goes, endRound, takeByte, next}
 use Rattle.rules.specs.Laws.Limit.Ends.{stepsLeft}
 use Rattle.tables.specs.Tables.{Tables}
 use Rattle.scan.specs.declared.Scan.{Scan}
@@ -125,7 +125,7 @@ module _ {t : Tables} {s : Scan} (steady : Steady t s) where
         → Onwards t s u r
     runs-ends is r to = runs-on _ is r to refl
 
-    module _ (x : ℕ) (is : Chosen t u (Take x)) (r : Taken) (q : r ≡ takenBy u (take (treeOf t u) (configOf u) x)) where
+    module _ (x : ℕ) (is : Chosen t u (Take x)) (r : Taken) (q : r ≡ takenBy u (takeByte (treeOf t u) (configOf u) x)) where
       pub takes-on : r .found ≡ On → Onwards t s u (r .state)
       takes-on f = runs-on _ is (r .state) (ap (λ r. r .state) q) (not-heard _ (sym (ap (λ r. r .found) q) ∙ f))
 

@@ -5,8 +5,8 @@ use mathlib.Core.Path.{_≡_, refl, ap, sym, _∙_}
 use mathlib.Core.List.{List, []}
 use mathlib.Core.Option.{Option, some}
 use lib.ListN.{length, getD}
-use Rattle.rules.specs.Lists.{filter}
-use Rattle.rules.specs.Rules.{hitAt, kept, ended, endRound, taken, take}
+use Rattle.rules.specs.Lists.{select}
+use Rattle.rules.specs.Rules.{hitAt, kept, ended, endRound, taken, takeByte}
 use Rattle.rules.specs.Tokens.{shiftOf}
 use Rattle.rules.specs.Laws.All.{All}
 use Rattle.rules.specs.Laws.Remember.{Lies}
@@ -89,7 +89,7 @@ pub ended-state : (parent label token first next : List ℕ) (s : Scan) (o : Opt
 ended-state parent label token first next s o by slots p q =
     let t = tables parent label token first next in
     ap (standing s (s .boundary + by) 0 0) (q ∙ remember-by t (s .count) (s .shortest) (configOf s) (s .boundary + by))
-    ∙ ap (λ b. standing s (s .boundary + b) 0 0 (laid maxStretches (filter (kept (s .boundary + b)) (ended (treeOf t s) (configOf s)))))
+    ∙ ap (λ b. standing s (s .boundary + b) 0 0 (laid maxStretches (select (kept (s .boundary + b)) (ended (treeOf t s) (configOf s)))))
     (p ∙ shift-by t (s .count) (s .shortest) (s .node) o)
 
 -- the state at another node, one deeper
@@ -102,7 +102,7 @@ module _ (parent label token first next : List ℕ) (s : Scan) (x : ℕ) (k : Ch
   lent = tables parent label token first next
 
   abbrev took : Taken
-  took = takenBy s (take (treeOf lent s) (configOf s) x)
+  took = takenBy s (takeByte (treeOf lent s) (configOf s) x)
 
   child-is : (j : Child) → k ≡ j → childBy lent (s .count) (s .node) x ≡ childOf j
   child-is j e =

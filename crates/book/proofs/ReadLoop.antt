@@ -7,7 +7,7 @@ use mathlib.Core.Path.{_≡_, refl, ap, sym, _∙_}
 use borrow.Author.Tests.{le-leb, lt-leb, lt-ltb, le-ltb, eq-eqb, ne-eqb, leb-false, ltb-false}
 use lib.Dec.{leb, ltb}
 use lib.ListN.{length, take, drop}
-use Rattle.rules.specs.Lists.{any, same}
+use Rattle.rules.specs.Lists.{anyOf, same}
 use Rattle.rules.specs.Tokens.{total}
 use Rattle.rules.specs.Laws.Tests.{or-nl, or-nr}
 use Rattle.book.specs.Book.{Reading, refused, maxTokens, maxBodies, kindAt, sizeAt, bodyAt, overLimits, repeats, closed, readFrom, readBook, summary}
@@ -102,7 +102,7 @@ module _ {book : List ℕ} {at : ℕ} {t : Totals} (w : Walk book at t) where
     pub beyond : over ≡ true → refused 5 at ≡ summary (readBook book)
     beyond e = says (refused 5 at) (rw e at opened)
 
-    module _ {repeat : Bool} (q : (ts : List (List ℕ)) → Upto book at ts → repeat ≡ any (same (take size (drop (at + 1) book))) ts)
+    module _ {repeat : Bool} (q : (ts : List (List ℕ)) → Upto book at ts → repeat ≡ anyOf (same (take size (drop (at + 1) book))) ts)
         (e : over ≡ false) where
       new : repeats book at (w .tokens) ≡ repeat
       new = sym (rw long at (q (w .tokens) (w .upto)))

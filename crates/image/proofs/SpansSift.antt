@@ -6,13 +6,13 @@ use mathlib.Core.Bool.{Bool, true, false}
 use mathlib.Core.List.{List, [], _∷_, _++_, append-nil}
 use borrow.Author.Tests.{lt-ltb, le-ltb}
 use lib.ListN.{length, length-append}
-use Rattle.rules.specs.Lists.{filter}
+use Rattle.rules.specs.Lists.{select}
 use Rattle.rules.specs.Rules.{leftOver, cut, kept}
-use Rattle.rules.specs.Laws.All.{All, filter-append}
+use Rattle.rules.specs.Laws.All.{All, select-append}
 use Rattle.rules.specs.Laws.Remember.{Lies, staying, Stay, stay-done, stay-again, lie-later}
 use Rattle.image.specs.declared.spans.Spans.{Spans}
 use Rattle.image.specs.Spans.{Places, placed, inUse, renewed, Fits}
-use Rattle.image.proofs.Using.{spanAt, restFrom, more, past, counts}
+use Rattle.image.proofs.SpansUsed.{spanAt, restFrom, more, past, counts}
 
 -- A stretch is left over or not, and kept or not.
 module _ (f : Spans) (from next : ℕ) (s : Places) where
@@ -75,17 +75,17 @@ module _ (f : Spans) (from b next : ℕ) (fits : Fits b f) (numbers : (from ≤ 
     abbrev new : Places
     new = record { left = left; right = b; node = tt }
 
-    renews : renewed from b next (inUse f) ≡ staying from next (inUse f) ++ filter (kept next) (new ∷ [])
+    renews : renewed from b next (inUse f) ≡ staying from next (inUse f) ++ select (kept next) (new ∷ [])
     renews =
-        ap (λ l. filter (kept next) (leftOver from (inUse f) ++ (record { left = l; right = b; node = tt } ∷ []))) (sym e)
-        ∙ filter-append (kept next) (leftOver from (inUse f)) (new ∷ [])
+        ap (λ l. select (kept next) (leftOver from (inUse f) ++ (record { left = l; right = b; node = tt } ∷ []))) (sym e)
+        ∙ select-append (kept next) (leftOver from (inUse f)) (new ∷ [])
 
     module _ (out : Spans) (is : inUse out ≡ staying from next (inUse f)) where
       abbrev with-new : Bool → List Places
       with-new x = inUse out ++ elim x [ true ↦ new ∷ [] | false ↦ [] ]
 
       ends : (x : Bool) → kept next new ≡ x → with-new x ≡ renewed from b next (inUse f)
-      ends x k = sym (ap with-new k) ∙ ap (λ l. l ++ filter (kept next) (new ∷ [])) is ∙ sym renews
+      ends x k = sym (ap with-new k) ∙ ap (λ l. l ++ select (kept next) (new ∷ [])) is ∙ sym renews
 
       pub ends-dropped : kept next new ≡ false → inUse out ≡ renewed from b next (inUse f)
       ends-dropped k = sym (append-nil (inUse out)) ∙ ends false k

@@ -9,13 +9,13 @@ use lib.ListN.{length, getD, set, length-set}
 use lib.Seq.{getD-set-same, getD-set-other}
 use mir.Syntax.{w16}
 use mir.Val.{Fits}
-use Rattle.rules.specs.Lists.{any}
+use Rattle.rules.specs.Lists.{anyOf}
 use Rattle.rules.specs.Tokens.{nodeShift, byteShift, shiftOf}
 use Rattle.rules.specs.Laws.Tests.{split, least-ge}
 use Rattle.agree.specs.Tests.{nodeTest, leastOf}
 use Rattle.agree.specs.Laws.Least.{least-bounds}
 use Rattle.image.specs.Rule5.{tokensOf, Accepted, nameOf, Right, ByNode, ByByte}
-use Rattle.image.proofs.Passing.{shortest-near}
+use Rattle.image.proofs.Rule5Tokens.{shortest-near}
 
 -- An entry of the cache that is given `by` at i.
 set-right : (cache : List ℕ) (i by v r : ℕ) → i < length cache → (v ≡ i → by ≡ r) → Right (getD cache v 0) r
@@ -53,7 +53,7 @@ module _ {book : List ℕ} {S : ℕ} {cache : List ℕ} (by : ℕ) where
 -- Rule 5 for the matched bytes u, with their node shift.
 module _ (tokens : List (List ℕ)) (S : ℕ) (u : List ℕ) (by : ℕ) (e : by ≡ nodeShift tokens S u) (closing : Option ℕ) where
   pub shift-nothing : closing ≡ none → by ≡ shiftOf tokens S u closing
-  shift-nothing z = rw z (omega (arith, least-ge (λ s. any (λ w. nodeTest u w s) tokens) 1 (S - 1)))
+  shift-nothing z = rw z (omega (arith, least-ge (λ s. anyOf (λ w. nodeTest u w s) tokens) 1 (S - 1)))
 
   pub shift-byte : (x : ℕ) → closing ≡ some x → (on : ℕ) → on ≡ byteShift tokens S (length u) (some x) → (r : ℕ) → r ≡ max by on
       → r ≡ shiftOf tokens S u closing

@@ -11,10 +11,10 @@ use Rattle.rules.specs.Tokens.{ends}
 use Rattle.rules.specs.Laws.Tests.{split}
 use Rattle.rules.specs.Laws.Endings.{ends-aux}
 use Rattle.tables.specs.Tables.{Tables, noted}
-use Rattle.tables.specs.Laws.Growth.{Grown, withChild, inserted}
+use Rattle.tables.specs.Laws.Inserted.{Grown, withChild, inserted}
 use Rattle.tables.specs.Walks.{childBy, ending}
 use Rattle.tables.specs.Laws.Shape.{up, head, Shape, Agree, Found, along-found, ending-step, ending-cons, ending-same, ending-apart}
-use Rattle.tables.specs.Laws.Grow.{Sized, grown-shape, child-sized, child-grows}
+use Rattle.tables.specs.Laws.NodeAdded.{Sized, grown-shape, child-sized, child-grows}
 use Rattle.tables.specs.Laws.Order.{Listed, upwards, listed-old, listed-new, listed-more}
 
 abbrev pub num : Tables → ℕ → ℕ

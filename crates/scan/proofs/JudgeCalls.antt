@@ -4,7 +4,7 @@ use native.Mathlib.Omega.{arith}
 use mathlib.Core.Path.{_≡_, refl, ap, sym, subst, _∙_}
 use mathlib.Core.Bool.{Bool, true, false}
 use mathlib.Core.Option.{some, none}
-use Rattle.rules.specs.Rules.{Config, Step, Next, finished, wants, goes, take, next}
+use Rattle.rules.specs.Rules.{Config, Step, Next, finished, wants, goes, takeByte, next}
 use Rattle.tables.specs.Tables.{Tables}
 use Rattle.tables.specs.Broken.{broken}
 use Rattle.trie.specs.Answers.{testedOf}
@@ -26,7 +26,7 @@ use Rattle.scan.specs.Laws.Within.{slots, moved-config}
 use Rattle.scan.specs.Laws.Stay.{next-within}
 use Rattle.scan.specs.Laws.Settle.{onHit, onNext, onJudged}
 use Rattle.scan.specs.Laws.Kept.{ReadyFor, WithinFor, NextFor, Ample, ample, admitted, admitted-ready, admitted-within, supplied-within}
-use Rattle.scan.proofs.Settling.{moved-steady, not-heard, heard}
+use Rattle.scan.proofs.StepsSettle.{moved-steady, not-heard, heard}
 
 -- by whether the call is out of turn
 abbrev pub turned : Bool → Judged
@@ -74,7 +74,7 @@ module _ (t : Tables) (s : Scan) (a : Said) (k : Judged) (e : k ≡ Refused a) w
 
   pub supply-refused : (x : ℕ) → judgedOf k ≡ judged t s true → steppedOf (record { state = s; answer = a }) ≡ supply t s x
   supply-refused x is =
-      let w = take (treeOf t s) (configOf s) x in
+      let w = takeByte (treeOf t s) (configOf s) x in
       ap (onJudged s (onHit t (counted s) (enough s) w (hitIn (w .events)))) (sym (ap judgedOf e) ∙ is)
 
 -- A call that is not refused has what a step asks.
@@ -100,7 +100,7 @@ carry-settles t s k e is r q = q ∙ ap (onJudged s (settle t s (enough s) (conf
 module _ (t : Tables) (s : Scan) (x : ℕ) (k : Judged) (e : k ≡ Admitted) (is : judgedOf k ≡ judged t s true)
     (u : Scan) (p : u ≡ counted s) where
   abbrev w : Step ℕ
-  w = take (treeOf t s) (configOf s) x
+  w = takeByte (treeOf t s) (configOf s) x
 
   steady : Steady t (counted s)
   steady = let h = fine-steady t s true k e is in record { ready = h .ready; within = h .within; slots = h .slots }
@@ -108,9 +108,9 @@ module _ (t : Tables) (s : Scan) (x : ℕ) (k : Judged) (e : k ≡ Admitted) (is
   pub counted-steady : Steady t u
   counted-steady = subst (Steady t) (sym p) steady
 
-  module _ (r : Taken) (q : r ≡ takenBy u (take (treeOf t u) (configOf u) x)) where
+  module _ (r : Taken) (q : r ≡ takenBy u (takeByte (treeOf t u) (configOf u) x)) where
     took : r ≡ takenBy (counted s) w
-    took = q ∙ ap (λ u. takenBy u (take (treeOf t u) (configOf u) x)) p
+    took = q ∙ ap (λ u. takenBy u (takeByte (treeOf t u) (configOf u) x)) p
 
     stands : r .state ≡ moved (counted s) (w .config) false
     stands = ap (λ r. r .state) took

@@ -4,9 +4,9 @@ use native.Mathlib.Omega.{arith}
 use mathlib.Core.Path.{_≡_, ap, sym, _∙_}
 use mathlib.Core.Bool.{Bool, true, false}
 use mathlib.Core.List.{List, [], _∷_, _++_, append-nil}
-use Rattle.rules.specs.Lists.{filter}
+use Rattle.rules.specs.Lists.{select}
 use Rattle.rules.specs.Rules.{Stretch, leftOver, cut, kept}
-use Rattle.rules.specs.Laws.All.{All, filter-append}
+use Rattle.rules.specs.Laws.All.{All, select-append}
 use Rattle.rules.specs.Laws.Remember.{Lies, staying, new-lies}
 use Rattle.rules.specs.Laws.Limit.Span.{cut-ge}
 use Rattle.tables.specs.Walks.{depth, lifted}
@@ -15,7 +15,7 @@ use Rattle.scan.specs.declared.stretches.Filled.{Filled}
 use Rattle.scan.specs.State.{slotOf, laid, maxStretches}
 use Rattle.scan.specs.Ways.{paths}
 use Rattle.scan.specs.Memory.{putIn, filledWith, Ends, rememberBy}
-use Rattle.scan.proofs.Sifting.{laid-full, put-filled}
+use Rattle.scan.proofs.StretchesSift.{laid-full, put-filled}
 
 -- A round ended: the new stretch begins at `left` and has the node `up`, and f holds the stretches that stay.
 pub record Ended (parent : List ℕ) (ms : List (Stretch ℕ)) (node d b next left up : ℕ) (f : Filled) : Type 0 where
@@ -48,9 +48,9 @@ module _ {parent : List ℕ} {ms : List (Stretch ℕ)} {node d b next left up : 
       let far : depth t node - (b - cut begin rest) ≡ left - begin =
       omega (arith, w .edge, w .ends .deep, w .ends .inside, cut-ge begin rest, new-before .some-length) in
       let node-is : lifted t (depth t node - (b - cut begin rest)) node ≡ up = ap (λ n. lifted t n node) far ∙ sym (w .lift) in
-      ap (λ v. laid maxStretches (filter (kept next) (rest ++ (stretch (cut begin rest) v ∷ [])))) node-is
-      ∙ ap (λ l. laid maxStretches (filter (kept next) (rest ++ (stretch l up ∷ [])))) (sym (w .edge))
-      ∙ ap (laid maxStretches) (filter-append (kept next) rest (new ∷ []))
+      ap (λ v. laid maxStretches (select (kept next) (rest ++ (stretch (cut begin rest) v ∷ [])))) node-is
+      ∙ ap (λ l. laid maxStretches (select (kept next) (rest ++ (stretch l up ∷ [])))) (sym (w .edge))
+      ∙ ap (laid maxStretches) (select-append (kept next) rest (new ∷ []))
 
   pub ends-full : maxStretches ≤ f .n → f .slots ≡ rememberBy parent ms node d b next
   ends-full h =

@@ -10,11 +10,11 @@ use Rattle.book.specs.Laws.Accepted.{Fit, accepted-fit}
 use Rattle.book.specs.Laws.Records.{Records, Held, accepted-records}
 use Rattle.tables.specs.Tables.{Tables, nodes, built, written}
 use Rattle.trie.specs.InPlace.{Room, Ready, placed, Counted, numbered, filled}
-use Rattle.tables.specs.Laws.Growth.{Grown, inserted, withToken, rootOnly, builtFrom, insertedAll}
+use Rattle.tables.specs.Laws.Inserted.{Grown, inserted, withToken, rootOnly, builtFrom, insertedAll}
 use Rattle.tables.specs.Laws.Shape.{alike, Shape}
-use Rattle.tables.specs.Laws.Grow.{Sized}
-use Rattle.tables.specs.Laws.Insert.{Inserted, inserts}
-use Rattle.tables.specs.Laws.Build.{shape-agree, root-facts}
+use Rattle.tables.specs.Laws.NodeAdded.{Sized}
+use Rattle.tables.specs.Laws.TokenAdded.{Inserted, inserts}
+use Rattle.tables.specs.Laws.TokensAdded.{shape-agree, root-facts}
 use Rattle.tables.specs.Laws.Same.{inserted-built}
 use Rattle.trie.specs.Laws.Over.{Kept, room-less, over-push, over-set, written-shape, written-kept, written-room, written-written}
 use Rattle.trie.specs.Laws.InPlace.{placed-written}

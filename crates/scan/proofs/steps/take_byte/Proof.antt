@@ -1,9 +1,9 @@
--- `take` meets its contract: the child that the chain has, with its hit, or the round ends.
+-- `take_byte` meets its contract: the child that the chain has, with its hit, or the round ends.
 use native.Mathlib.Omega.{arith}
 use borrow.Author.Needs.{needs}
-use Rattle.scan.proofs.Stepping.{took-end, took-on, took-hit, child-held}
-use Rattle.scan.proofs.steps.take.Statement.{statement}
-use Rattle.scan.proofs.steps.take.Tie as tie
+use Rattle.scan.proofs.StepsTake.{took-end, took-on, took-hit, child-held}
+use Rattle.scan.proofs.steps.take_byte.Statement.{statement}
+use Rattle.scan.proofs.steps.take_byte.Tie as tie
 
 child-requires : tie.Need-child-requires
 child-requires c κs = search needs
@@ -73,8 +73,8 @@ returns-3 c =
     took-hit (a .parent .now) (a .label .now) (a .token .now) (a .first .now) (a .next .now) (a .scan) (a .byte) (k .result) (k .ensures)
     (known .0 .0) (known .1) (s .pre) (c .if1 .left)
 
-pub take-spec : {M : Type 1} → statement M
-take-spec =
+pub take-byte-spec : {M : Type 1} → statement M
+take-byte-spec =
     tie.close
     (tie.spec
     child-requires

@@ -11,7 +11,7 @@ use lib.ListN.{length, getD, set, length-append, length-set, List·getD-append}
 use lib.Seq.{getD-at, getD-set-same, getD-set-other}
 use Rattle.rules.specs.Laws.Tests.{decide, split, below-suc}
 use Rattle.tables.specs.Tables.{Tables}
-use Rattle.tables.specs.Laws.Growth.{lastOf, withChild}
+use Rattle.tables.specs.Laws.Inserted.{lastOf, withChild}
 use Rattle.tables.specs.Laws.Shape.{up, tag, head, sib, Link, Shape, Agree, Last, last-found}
 
 -- what becomes of a link when node n is added: it stays, or it was 0 and now leads to n

@@ -6,7 +6,7 @@ use mathlib.Core.List.{List, [], _∷_}
 use mathlib.Core.Option.{Option, some, none}
 use lib.Dec.{ltb, eqb}
 use lib.ListN.{getD}
-use Rattle.rules.specs.Lists.{any}
+use Rattle.rules.specs.Lists.{anyOf}
 use Rattle.rules.specs.Rules.{Tree, Stretch, Config, finished, goes, place, recall, endRound, look, next}
 use Rattle.tables.specs.Tables.{Tables}
 use Rattle.trie.specs.Answers.{tables}
@@ -18,7 +18,7 @@ use Rattle.scan.specs.Memory.{covers}
 abbrev pub fetches : {E : Type 0} → Tree E → ℕ → Config E → Bool
 fetches tree n c =
     not (ltb n (c .boundary)) && not (tree .leaf (c .node) || eqb (c .depth) (c .boundary))
-    && not (any (covers (place c)) (c .stretches))
+    && not (anyOf (covers (place c)) (c .stretches))
 
 module _ {E : Type 0} (tree : Tree E) (c : Config E) where
   looked : (b r : Bool) (x : ℕ) (o : Option ℕ) → wantsByte (look tree c o) ≡ not r
@@ -26,7 +26,7 @@ module _ {E : Type 0} (tree : Tree E) (c : Config E) where
   looked true r x o e = refl
   looked false r x o e = e
 
-  recall-is : (at : ℕ) (ms : List (Stretch E)) → wantsByte (look tree c (recall tree ms at)) ≡ not (any (covers at) ms)
+  recall-is : (at : ℕ) (ms : List (Stretch E)) → wantsByte (look tree c (recall tree ms at)) ≡ not (anyOf (covers at) ms)
   recall-is at [] = refl
   recall-is at (m ∷ ms) = looked (covers at m) _ _ _ (recall-is at ms)
 
@@ -51,6 +51,6 @@ due-same t s =
 -- A byte is due: the answer, from the tests.
 pub due-tests : (first : List ℕ) (s : Scan) → s .due ≡ true → {a b d r : Bool}
     → ltb (s .image) (s .boundary) ≡ a → eqb (getD first (s .node) 0) 0 ≡ b → eqb (s .depth) (s .boundary) ≡ d
-    → any (covers (s .boundary - 1 - s .depth)) (used (s .stretches)) ≡ r
+    → anyOf (covers (s .boundary - 1 - s .depth)) (used (s .stretches)) ≡ r
     → dueOk (tables [] [] [] first []) s ≡ (not a && not (b || d) && not r)
 due-tests first s due ea eb ed er = cc (wants-is (treeOf (tables [] [] [] first []) s) (configOf s) (s .image))

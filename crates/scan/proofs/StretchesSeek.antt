@@ -10,7 +10,7 @@ use borrow.Author.Tests.{leb-true, ltb-true}
 use lib.Dec.{leb, ltb}
 use lib.ListN.{length, getD, drop, drop-of-length-le}
 use lib.Seq.{drop-cons}
-use Rattle.rules.specs.Lists.{any}
+use Rattle.rules.specs.Lists.{anyOf}
 use Rattle.rules.specs.Rules.{Stretch}
 use Rattle.rules.specs.Laws.Tests.{passed}
 use Rattle.rules.specs.Laws.All.{All}
@@ -24,7 +24,7 @@ use Rattle.scan.specs.Ways.{paths, Climbs}
 use Rattle.scan.specs.Memory.{covers, holding, holderOf, recallBy, Remembers}
 use Rattle.scan.specs.Laws.Within.{Fits}
 use Rattle.scan.specs.Laws.Ways.{lifted-alike}
-use Rattle.scan.proofs.Climbing.{falls}
+use Rattle.scan.proofs.SpellClimb.{falls}
 
 -- the slot i, and the stretches from there on
 abbrev pub slotAt : List Slot → ℕ → Slot
@@ -74,15 +74,15 @@ abbrev pub there : Holder → Bool
 there k = holdsOf (holderOf k)
 
 module _ (at : ℕ) where
-  pub any-holds : (ms : List (Stretch ℕ)) (k : Holder) → holderOf k ≡ holding at ms → there k ≡ any (covers at) ms
-  any-holds ms k e = ap holdsOf e ∙ go ms
+  pub anyOf-holds : (ms : List (Stretch ℕ)) (k : Holder) → holderOf k ≡ holding at ms → there k ≡ anyOf (covers at) ms
+  anyOf-holds ms k e = ap holdsOf e ∙ go ms
     where
-      found : (b : Bool) (m : Stretch ℕ) (ms : List (Stretch ℕ)) → holdsOf (holding at ms) ≡ any (covers at) ms
-          → holdsOf (elim b [ true ↦ some m | false ↦ holding at ms ]) ≡ (b || any (covers at) ms)
+      found : (b : Bool) (m : Stretch ℕ) (ms : List (Stretch ℕ)) → holdsOf (holding at ms) ≡ anyOf (covers at) ms
+          → holdsOf (elim b [ true ↦ some m | false ↦ holding at ms ]) ≡ (b || anyOf (covers at) ms)
       found true m ms e = refl
       found false m ms e = e
 
-      go : (ms : List (Stretch ℕ)) → holdsOf (holding at ms) ≡ any (covers at) ms
+      go : (ms : List (Stretch ℕ)) → holdsOf (holding at ms) ≡ anyOf (covers at) ms
       go [] = refl
       go (m ∷ ms) = found (covers at m) m ms (go ms)
 

@@ -10,12 +10,12 @@ use lib.Seq.{take-suc, getD-set-same, getD-set-other}
 use Rattle.rules.specs.Tokens.{ends, total}
 use Rattle.rules.specs.Laws.Tests.{split, below-suc}
 use Rattle.tables.specs.Tables.{Tables, endingsOf, noted, nodes}
-use Rattle.tables.specs.Laws.Growth.{insertedAll, Grown, inserted, withToken, rootOnly, builtFrom}
+use Rattle.tables.specs.Laws.Inserted.{insertedAll, Grown, inserted, withToken, rootOnly, builtFrom}
 use Rattle.tables.specs.Walks.{ending}
 use Rattle.tables.specs.Laws.Shape.{up, head, sib, Link, Shape, Agree, ending-same, ending-apart}
-use Rattle.tables.specs.Laws.Grow.{Sized}
+use Rattle.tables.specs.Laws.NodeAdded.{Sized}
 use Rattle.tables.specs.Laws.Order.{Listed, listed-agree, upwards-all, tokens-append}
-use Rattle.tables.specs.Laws.Insert.{num, Inserted, inserts}
+use Rattle.tables.specs.Laws.TokenAdded.{num, Inserted, inserts}
 
 -- the number of the token u, or 0 where it is none of the first k
 abbrev pub Numbered : List (List ℕ) → ℕ → List ℕ → ℕ → Type 0
