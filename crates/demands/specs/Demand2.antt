@@ -13,7 +13,7 @@ use Rattle.scan.specs.declared.Scan.{Scan}
 use Rattle.scan.specs.Start.{start}
 use Rattle.scan.specs.Calls.{Answer, fetch, found, over, refused, Stepped, carryOn, supply}
 use Rattle.scan.specs.Answers.{answers, placesIn, hitsIn}
-use Rattle.image.specs.Image.{Swept, room, counted, noted, sweepImage}
+use Rattle.whole.specs.Image.{Swept, room, counted, noted, sweepImage}
 
 -- What the first calls answer, of which there are at most `calls` and `r` is the first: each place to fetch is supplied with
 -- the image's byte, a hit is carried on from, and after done or a refusal no call is made.

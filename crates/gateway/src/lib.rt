@@ -6,7 +6,7 @@ ghost use mathlib.Core.Path.{_≡_};
 ghost use Rattle.book.specs.Book.{refused};
 ghost use Rattle.tables.specs.Tables.{build};
 ghost use Rattle.trie.specs.Answers.{tables, answerOf};
-ghost use Rattle.image.specs.Image.{sweepImage};
+ghost use Rattle.whole.specs.Image.{sweepImage};
 ghost use Rattle.gateway.specs.Numbers.{builtOf, sweptOf};
 use refusals::Refused;
 use refusals::number_of;

@@ -14,7 +14,7 @@ use Rattle.tables.specs.Tables.{Tables, nodes, built, Lent, written, tooShort, 
 use Rattle.tables.specs.Laws.Made.{sizesOf, written-lent, answerTo}
 use Rattle.trie.specs.Laws.Answer.{Summed}
 use Rattle.tables.specs.Laws.Represents.{built-represents}
-use Rattle.image.specs.Image.{Swept, tooLong, room, hitsOf, fetchesOf, counted, noted, sweepImage}
+use Rattle.whole.specs.Image.{Swept, tooLong, room, hitsOf, fetchesOf, counted, noted, sweepImage}
 use Rattle.image.specs.Results.{refusalFor}
 use Rattle.image.specs.Rule5.{tokensIn, tokensOf}
 use Rattle.image.specs.Sweeping.{Given}

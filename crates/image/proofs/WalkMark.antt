@@ -11,7 +11,7 @@ use Rattle.tables.specs.Walks.{childBy}
 use Rattle.trie.specs.Answers.{tables, childOf}
 use Rattle.trie.specs.declared.Child.{Child}
 use Rattle.trie.specs.declared.Child.the-variants.{At, Absent}
-use Rattle.image.specs.Image.{room}
+use Rattle.whole.specs.Image.{room}
 use Rattle.image.specs.Rounds.{mark, passed, met}
 use Rattle.image.specs.Walk.{treeIn, Walkable, note, notes, Noted}
 use Rattle.image.specs.Laws.Notes.{note-length}

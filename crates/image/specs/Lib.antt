@@ -1,6 +1,4 @@
--- The sweep of a whole image at hand.
-pub mod Image
-pub mod Examples
+-- What the code of the sweep of a whole image is proved by: its answers, a round as a whole, what holds between rounds, and the laws.
 pub mod Results
 pub mod Rounds
 pub mod Walk

@@ -17,7 +17,7 @@ use Rattle.image.specs.declared.skim.Skipped.{Skipped}
 use Rattle.image.specs.declared.turn.Outcome.{Outcome}
 use Rattle.image.specs.declared.walk.Stop.{Stop}
 use Rattle.image.specs.declared.walk.Stop.the-variants.{Byte, Nothing}
-use Rattle.image.specs.Image.{hitsOf, fetchesOf}
+use Rattle.whole.specs.Image.{hitsOf, fetchesOf}
 use Rattle.image.specs.Rounds.{Reached, reached, lowest}
 use Rattle.image.specs.Spans.{placesOf, inUse}
 use Rattle.image.specs.Rule5.{tokensOf, Accepted, closingOf, ByNode, ByByte, BySkip}

@@ -12,7 +12,7 @@ use Rattle.trie.specs.Answers.{tables}
 use Rattle.image.specs.declared.walk.Stop.{Stop}
 use Rattle.image.specs.declared.walk.Stop.the-variants.{Byte, Nothing}
 use Rattle.image.specs.declared.walk.Arrival.{Arrival}
-use Rattle.image.specs.Image.{room}
+use Rattle.whole.specs.Image.{room}
 use Rattle.image.specs.Rounds.{Reached}
 
 -- The tree of the four tables that a round reads; S plays no part in it.

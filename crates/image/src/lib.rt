@@ -10,7 +10,7 @@ mod walk;
 ghost use mathlib.Core.Path.{_≡_};
 ghost use Rattle.tables.specs.Tables.{Tables, shortestTable};
 ghost use Rattle.trie.specs.Answers.{tables};
-ghost use Rattle.image.specs.Image.{counted, sweepImage};
+ghost use Rattle.whole.specs.Image.{counted, sweepImage};
 ghost use Rattle.image.specs.Results.{sweptOf, fetchedOf, refusalFor};
 use book::Book;
 use book::Reading;

@@ -1,7 +1,7 @@
 // The rounds of a sweep, one after the other.
 ghost use mathlib.Core.Path.{_≡_};
 ghost use lib.ListN.{length};
-ghost use Rattle.image.specs.Image.{room, hitsOf, fetchesOf, noted};
+ghost use Rattle.whole.specs.Image.{room, hitsOf, fetchesOf, noted};
 ghost use Rattle.image.specs.Walk.{Kids};
 ghost use Rattle.image.specs.Rule5.{tokensOf};
 ghost use Rattle.image.specs.Sweeping.{Given, Caches};

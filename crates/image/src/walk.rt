@@ -6,7 +6,7 @@ ghost use mathlib.Core.Option.{some};
 ghost use lib.ListN.{length};
 ghost use Rattle.tables.specs.Walks.{childBy};
 ghost use Rattle.trie.specs.Answers.{tables, childOf};
-ghost use Rattle.image.specs.Image.{room};
+ghost use Rattle.whole.specs.Image.{room};
 ghost use Rattle.image.specs.Rounds.{reached, met};
 ghost use Rattle.image.specs.Walk.{treeIn, Walkable, numberOf, Kids, arrivalOf, note, Noted};
 use trie::Child;

@@ -12,7 +12,7 @@ use Rattle.rules.specs.Laws.Exact.{happens-exact}
 use Rattle.book.specs.Book.{accepted}
 use Rattle.book.specs.Laws.Accepted.{accepted-setting, accepted-longest}
 use Rattle.image.specs.declared.Swept.{Swept}
-use Rattle.image.specs.Image.{room, hitsOf, counted, noted}
+use Rattle.whole.specs.Image.{room, hitsOf, counted, noted}
 use Rattle.image.specs.Results.{sweptOf}
 use Rattle.image.specs.Rule5.{tokensOf}
 use Rattle.listing.specs.Parts.{maxHits, maxPart, partFrom, partTo, between, past, fromAt, toAt, partAt}

@@ -11,7 +11,7 @@ use Rattle.book.specs.Laws.Accepted.{accepted-fit}
 use Rattle.tables.specs.Tables.{Tables, built, written, shortestTable}
 use Rattle.trie.specs.Laws.Answer.{summed}
 use Rattle.image.specs.declared.Swept.{Swept as Answer}
-use Rattle.image.specs.Image.{room, hitsOf, fetchesOf, counted, noted, sweepImage}
+use Rattle.whole.specs.Image.{room, hitsOf, fetchesOf, counted, noted, sweepImage}
 use Rattle.image.specs.Results.{sweptOf, fetchedOf}
 use Rattle.image.specs.Rule5.{tokensIn, tokensOf}
 use Rattle.sweep.specs.Program.{Accepted, Known, Answered}

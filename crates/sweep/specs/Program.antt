@@ -7,7 +7,7 @@ use Rattle.rules.specs.Tokens.{longestOf}
 use Rattle.rules.specs.Sweep.{further}
 use Rattle.book.specs.Book.{readBook, accepted}
 use Rattle.image.specs.declared.Swept.{Swept}
-use Rattle.image.specs.Image.{room, hitsOf, fetchesOf, counted, noted}
+use Rattle.whole.specs.Image.{room, hitsOf, fetchesOf, counted, noted}
 use Rattle.image.specs.Results.{sweptOf, fetchedOf}
 use Rattle.image.specs.Rule5.{tokensOf}
 use Rattle.sweep.specs.declared.parts.Part.{Part}

@@ -18,7 +18,7 @@ use Rattle.scan.specs.declared.Scan.{Scan}
 use Rattle.scan.specs.Start.{started, start}
 use Rattle.scan.specs.Calls.{carryOn}
 use Rattle.scan.specs.Answers.{answers}
-use Rattle.image.specs.Image.{room, counted, noted, sweepImage}
+use Rattle.whole.specs.Image.{room, counted, noted, sweepImage}
 use Rattle.scan.specs.Laws.Walk.{fresh-sat}
 use Rattle.scan.specs.Laws.Settle.{Settled, carry-settles}
 use Rattle.demands.specs.Demand2.{swept, Demand2, Demand2For}

@@ -3,7 +3,7 @@ use Prim.Native.Nat.{ℕ, _≤_, _<_}
 use mathlib.Core.Path.{_≡_, refl}
 use borrow.Author.Tests.{lt-ltb, le-ltb}
 use Rattle.book.specs.Book.{accepted, refused}
-use Rattle.image.specs.Image.{counted}
+use Rattle.whole.specs.Image.{counted}
 use Rattle.image.proofs.answer.Statement.{statement}
 use Rattle.image.proofs.answer.Tie as tie
 

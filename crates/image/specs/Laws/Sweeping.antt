@@ -14,7 +14,7 @@ use Rattle.rules.specs.Laws.Exact.Shift.{shift-ge, shift-upto}
 use Rattle.book.specs.Book.{readBook, accepted, maxImage, maxBody}
 use Rattle.rules.specs.Laws.Lengths.{shortest-is}
 use Rattle.book.specs.Laws.Accepted.{accepted-setting, accepted-longest, accepted-some, accepted-fit}
-use Rattle.image.specs.Image.{hitsOf, fetchesOf}
+use Rattle.whole.specs.Image.{hitsOf, fetchesOf}
 use Rattle.image.specs.Rounds.{Reached, reached, met, lowest}
 use Rattle.image.specs.Spans.{placesOf, inUse, renewed, Fits}
 use Rattle.image.specs.Rule5.{tokensOf}

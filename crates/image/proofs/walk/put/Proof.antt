@@ -4,7 +4,7 @@ use native.Mathlib.Omega.{arith}
 use mathlib.Core.Logic.{⊎-elim}
 use borrow.Author.Tests.{ltb-true, ltb-false}
 use borrow.Author.Needs.{needs}
-use Rattle.image.specs.Image.{room}
+use Rattle.whole.specs.Image.{room}
 use Rattle.image.specs.Laws.Notes.{note-in, note-out}
 use Rattle.image.proofs.walk.put.Statement.{statement}
 use Rattle.image.proofs.walk.put.Tie as tie

@@ -7,7 +7,7 @@ use Rattle.rules.specs.Rules.{trace}
 use Rattle.rules.specs.Sweep.{happens}
 use Rattle.book.specs.Book.{accepted, refused}
 use Rattle.tables.specs.Tables.{Tables, built}
-use Rattle.image.specs.Image.{Swept, sweepImage}
+use Rattle.whole.specs.Image.{Swept, sweepImage}
 
 abbrev book : List ℕ
 book = 1 ∷ 97 ∷ 2 ∷ 97 ∷ 97 ∷ 0 ∷ []

@@ -1,0 +1,1 @@
+// The sweep of a whole image: its definition and samples, no code.
