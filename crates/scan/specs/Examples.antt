@@ -179,7 +179,7 @@ unfolding chain count row
 supply-out-of-turn = refl
 
 -- Carrying on when done changes nothing.
-done-stays : carryOn chain (row 30 20 21 31 0 0 [] false 7 true .state)
-    ≡ record { state = row 30 20 21 31 0 0 [] false 7 true .state; answer = over }
+still-done : carryOn chain (row 30 20 21 31 5 5 [] false 7 true .state)
+    ≡ record { state = row 30 20 21 31 5 5 [] false 7 true .state; answer = over }
 unfolding chain count row
-done-stays = refl
+still-done = refl

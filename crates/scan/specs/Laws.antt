@@ -1,6 +1,6 @@
 -- The laws of the calls. Over tables that represent the tokens: what a state comes to (Walk), that it is in its ranges (Range),
 -- and that a call in turn answers what the rules say next (Settle). Over any tables that pass refusal 9: a state in its ranges
--- (Within) stays there by a step (Stay) and by a call (Kept). Slots: the stretches in a state are those laid there. Of the code:
+-- (Within) stays there by a step (Stay) and by a call (Kept), and is left as it is when the sweep is done (Done). Slots: the stretches in a state are those laid there. Of the code:
 -- what it finds in the tables that it climbs (Ways, Memory).
 pub mod Mild
 pub mod Slots
@@ -11,4 +11,5 @@ pub mod Range
 pub mod Settle
 pub mod Stay
 pub mod Kept
+pub mod Done
 pub mod Memory

@@ -1,19 +1,31 @@
--- Samples of the whole call: "a" and "aa" in "aaa" have five hits, for which five bytes are fetched.
+-- Samples of the whole call: "a" and "aa" have three hits in "aab", for which four bytes are fetched.
 use Prim.Native.Nat.{ℕ}
 use mathlib.Core.Path.{_≡_, refl}
+use mathlib.Core.Bool.{false}
 use mathlib.Core.List.{List, [], _∷_}
-use lib.ListN.{replicate}
+use lib.ListN.{length, replicate}
 use Rattle.rules.specs.Rules.{trace}
 use Rattle.rules.specs.Sweep.{happens}
-use Rattle.book.specs.Book.{accepted, refused}
+use Rattle.book.specs.Book.{Verdict, accepted, refused}
 use Rattle.tables.specs.Tables.{Tables, built}
-use Rattle.whole.specs.Image.{Swept, sweepImage}
+use Rattle.whole.specs.Image.{Swept, tooLong, sweepImage}
 
 abbrev book : List ℕ
 book = 1 ∷ 97 ∷ 2 ∷ 97 ∷ 97 ∷ 0 ∷ []
 
+-- the book without its last two bytes
+abbrev cut : List ℕ
+cut = 1 ∷ 97 ∷ 2 ∷ 97 ∷ []
+
+abbrev image : List ℕ
+image = 97 ∷ 97 ∷ 98 ∷ []
+
+-- tables of n entries and a buffer of n entries, as they are lent
 abbrev nines : ℕ → Tables
 nines n = record { parent = replicate n 9; label = replicate n 9; token = replicate n 9; first = replicate n 9; next = replicate n 9 }
+
+abbrev eights : ℕ → List ℕ
+eights n = replicate n 8
 
 -- three nodes: "", "a", "aa"; the fourth entry stays
 abbrev three : Tables
@@ -25,22 +37,60 @@ three = record {
   next = 0 ∷ 0 ∷ 0 ∷ 9 ∷ [];
 }
 
-abbrev lent : ℕ → List ℕ → List ℕ → Swept
-lent n ends tokens = sweepImage book (replicate 3 97) (nines n) ends tokens
+-- The sweep, with buffers of so many entries.
+abbrev swept : ℕ → ℕ → Swept
+swept ends tokens = sweepImage book image (nines 4) (eights ends) (eights tokens)
 
--- All hits are there, and what follows them stays.
-all-found : lent 4 (replicate 6 8) (replicate 5 8)
-    ≡ record { answer = accepted 5; fetched = 5; tables = three; ends = 1 ∷ 2 ∷ 2 ∷ 3 ∷ 3 ∷ 8 ∷ []; tokens = 1 ∷ 1 ∷ 2 ∷ 1 ∷ 2 ∷ [] }
+-- What it leaves once the tables are built.
+abbrev leaves : Verdict ℕ → List ℕ → List ℕ → Swept
+leaves answer ends tokens = record { answer = answer; fetched = 4; tables = three; ends = ends; tokens = tokens }
+
+-- All hits are there, and what follows them stays in both buffers.
+all-found : swept 5 4 ≡ leaves (accepted 3) (1 ∷ 2 ∷ 2 ∷ 8 ∷ 8 ∷ []) (1 ∷ 1 ∷ 2 ∷ 8 ∷ [])
 unfolding happens trace built
 all-found = refl
 
--- 12: the number of all hits, the bytes fetched, and the first hits, as many as the shorter buffer holds.
-too-many : lent 4 (replicate 4 8) (replicate 2 8)
-    ≡ record { answer = refused 12 5; fetched = 5; tables = three; ends = 1 ∷ 2 ∷ 8 ∷ 8 ∷ []; tokens = 1 ∷ 1 ∷ [] }
+-- There is room for exactly the hits there are.
+just-room : swept 3 4 ≡ leaves (accepted 3) (1 ∷ 2 ∷ 2 ∷ []) (1 ∷ 1 ∷ 2 ∷ 8 ∷ [])
 unfolding happens trace built
-too-many = refl
+just-room = refl
 
--- 7: nothing is built, written or fetched.
-too-short : lent 3 (replicate 4 8) (replicate 2 8)
-    ≡ record { answer = refused 7 4; fetched = 0; tables = nines 3; ends = replicate 4 8; tokens = replicate 2 8 }
+-- 12 where the first buffer is the shorter: the number of all hits, and the first of them as far as it reaches.
+first-shorter : swept 1 3 ≡ leaves (refused 12 3) (1 ∷ []) (1 ∷ 8 ∷ 8 ∷ [])
+unfolding happens trace built
+first-shorter = refl
+
+-- 12 where the second is.
+second-shorter : swept 4 2 ≡ leaves (refused 12 3) (1 ∷ 2 ∷ 8 ∷ 8 ∷ []) (1 ∷ 1 ∷ [])
+unfolding happens trace built
+second-shorter = refl
+
+-- 12 where both are empty: the tables are built all the same.
+no-room : swept 0 0 ≡ leaves (refused 12 3) [] []
+unfolding happens trace built
+no-room = refl
+
+-- What a refusal before building leaves: all that was lent.
+abbrev untouched : Verdict ℕ → ℕ → Swept
+untouched answer n = record { answer = answer; fetched = 0; tables = nines n; ends = eights 4; tokens = eights 2 }
+
+-- 7: a table has an entry too few.
+too-short : sweepImage book image (nines 3) (eights 4) (eights 2) ≡ untouched (refused 7 4) 3
 too-short = refl
+
+module _ (long : List ℕ) (e : length long ≡ 16777217) where
+  -- 8: the image has a byte too many, whatever its bytes are.
+  too-long : sweepImage book long (nines 4) (eights 4) (eights 2) ≡ untouched (refused 8 16777216) 4
+  too-long = rw (e, sweepImage) refl
+
+  -- 7 before 8.
+  seven-first : sweepImage book long (nines 3) (eights 4) (eights 2) ≡ untouched (refused 7 4) 3
+  seven-first = refl
+
+  -- 1 before 7 and 8.
+  one-first : sweepImage cut long (nines 0) (eights 4) (eights 2) ≡ untouched (refused 1 2) 0
+  one-first = refl
+
+-- An image at the limit is no cause for 8.
+longest : (image : List ℕ) → length image ≡ 16777216 → tooLong image ≡ false
+longest image e = rw e refl
