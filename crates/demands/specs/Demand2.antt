@@ -1,14 +1,12 @@
 -- Demand 2: the hits are exactly the occurrences, and the places fetched are those of the reading rules. For the sweep of one
--- unchanging image by single bytes, over tables that begin with the built ones, and for the sweep of the same image as a whole.
+-- unchanging image by single bytes, from building on, and for the sweep of the same image as a whole.
 use Prim.Native.Nat.{ℕ, zero, suc}
 use mathlib.Core.Path.{_≡_}
-use mathlib.Core.Bool.{false}
 use mathlib.Core.List.{List, [], _∷_, _++_}
 use lib.ListN.{length, getD, take}
-use Rattle.rules.specs.Tokens.{shortestOf}
 use Rattle.rules.specs.Sweep.{happens, bytesOf, places, hits, Occurrences}
 use Rattle.book.specs.Book.{readBook, accepted}
-use Rattle.tables.specs.Tables.{Tables, nodes, built, Lent, tooShort, written}
+use Rattle.tables.specs.Tables.{Tables, Sizes, build}
 use Rattle.scan.specs.declared.Scan.{Scan}
 use Rattle.scan.specs.Start.{start}
 use Rattle.scan.specs.Calls.{Answer, fetch, found, over, refused, Stepped, carryOn, supply}
@@ -27,32 +25,33 @@ swept t image (suc calls) r =
       | refused k v ↦ []
     ]
 
--- `said calls` is what the first calls answer; `whole` is what the rules say in all. `lent` are the tables for the sweep of the image
--- as a whole, and `sweep` is that call, for any two hit buffers.
-pub record Demand2 (tokens : List (List ℕ)) (image : List ℕ) (said : ℕ → List Answer) (lent : Tables) (sweep : List ℕ → List ℕ → Swept) : Type 0
-  where
-    pub whole : List Answer
-    pub rules : whole ≡ answers (happens tokens (length image) (bytesOf image))
-    -- the calls answer what the rules say, and the last answer is done
-    pub answered : (calls : ℕ) → said calls ≡ take calls whole
-    pub ends : (before : List Answer) × (whole ≡ before ++ (over ∷ []))
-    -- the places fetched are the rules', and the hits are exactly the occurrences
-    pub fetches : placesIn whole ≡ places (happens tokens (length image) (bytesOf image))
-    pub finds : hitsIn whole ≡ hits (happens tokens (length image) (bytesOf image))
-    pub occurrences : Occurrences tokens image (hitsIn whole)
-    -- the whole image gives these hits and as many places: it answers their numbers, that of the hits by refusal 12 where they are too
-    -- many, builds the tables, and writes the hits as far as both buffers reach
-    pub counts : (ends numbers : List ℕ) → sweep ends numbers .answer ≡ counted (room ends numbers) (length (hitsIn whole))
-    pub counts-fetches : (ends numbers : List ℕ) → sweep ends numbers .fetched ≡ length (placesIn whole)
-    pub builds : (ends numbers : List ℕ) → sweep ends numbers .tables ≡ written (built tokens) lent
-    pub notes-ends : (ends numbers : List ℕ) → sweep ends numbers .ends ≡ noted (λ h. h .0) (room ends numbers) (hitsIn whole) ends
-    pub notes-tokens : (ends numbers : List ℕ) → sweep ends numbers .tokens ≡ noted (λ h. h .1) (room ends numbers) (hitsIn whole) numbers
+-- `said calls` is what the first calls answer; `whole` is what the rules say in all; `sweep` is the sweep of the image as a whole, for any
+-- two hit buffers; `t` are the tables that building left.
+pub record Demand2 (book image : List ℕ) (said : ℕ → List Answer) (sweep : List ℕ → List ℕ → Swept) (t : Tables) : Type 0 where
+  pub tokens : List (List ℕ)
+  pub read : readBook book ≡ accepted tokens
+  pub whole : List Answer
+  pub rules : whole ≡ answers (happens tokens (length image) (bytesOf image))
+  -- the calls answer what the rules say, and the last answer is done
+  pub answered : (calls : ℕ) → said calls ≡ take calls whole
+  pub ends : (before : List Answer) × (whole ≡ before ++ (over ∷ []))
+  -- the places fetched are the rules', and the hits are exactly the occurrences
+  pub fetches : placesIn whole ≡ places (happens tokens (length image) (bytesOf image))
+  pub finds : hitsIn whole ≡ hits (happens tokens (length image) (bytesOf image))
+  pub occurrences : Occurrences tokens image (hitsIn whole)
+  -- the whole image gives these hits and as many places: it answers their numbers, that of the hits by refusal 12 where they are too
+  -- many, builds the same tables, and writes the hits as far as both buffers reach
+  pub counts : (ends numbers : List ℕ) → sweep ends numbers .answer ≡ counted (room ends numbers) (length (hitsIn whole))
+  pub counts-fetches : (ends numbers : List ℕ) → sweep ends numbers .fetched ≡ length (placesIn whole)
+  pub builds : (ends numbers : List ℕ) → sweep ends numbers .tables ≡ t
+  pub notes-ends : (ends numbers : List ℕ) → sweep ends numbers .ends ≡ noted (λ h. h .0) (room ends numbers) (hitsIn whole) ends
+  pub notes-tokens : (ends numbers : List ℕ) → sweep ends numbers .tokens ≡ noted (λ h. h .1) (room ends numbers) (hitsIn whole) numbers
 
--- Demand 2 in one piece: for every accepted book, all tables that begin with its built ones, all tables that it can be built into, and
--- every image that starting takes.
+-- Demand 2 in one piece. Building takes a book and lent tables, answers the number of nodes, S and D, and leaves tables; starting takes
+-- these numbers and an image's length; then the calls are made. The whole image is swept with the tables as they were lent.
 unfoldable pub Demand2For : Type 0
 Demand2For =
-    (book : List ℕ) (tokens : List (List ℕ)) → readBook book ≡ accepted tokens →
-    (t : Tables) → Lent t (built tokens) → (lent : Tables) → tooShort lent tokens ≡ false →
-    (image : List ℕ) (s : Scan) → start (length image) (shortestOf tokens) (length (nodes tokens)) ≡ accepted s →
-    Demand2 tokens image (λ calls. swept t image calls (carryOn t s)) lent (sweepImage book image lent)
+    (book : List ℕ) (lent : Tables) (sizes : Sizes) → build book lent .answer ≡ accepted sizes →
+    (image : List ℕ) (s : Scan) → start (length image) (sizes .shortest) (sizes .nodes) ≡ accepted s →
+    let t = build book lent .tables in
+    Demand2 book image (λ calls. swept t image calls (carryOn t s)) (sweepImage book image lent) t

@@ -1,14 +1,13 @@
 -- Demand 3: one claim about a list of calls as a whole, with any bytes and in any order: the answers are the rules', the bytes
--- fetched are within the limit, and few stretches are remembered. Over tables that begin with the built ones.
+-- fetched are within the limit, and few stretches are remembered. From building on.
 use Prim.Native.Nat.{ℕ, _^_, _≤_}
 use mathlib.Core.Path.{_≡_}
 use mathlib.Core.Bool.{Bool, true, false}
 use mathlib.Core.List.{List, [], _∷_, _++_}
 use lib.ListN.{length, getD}
-use Rattle.rules.specs.Tokens.{shortestOf, longestOf}
 use Rattle.rules.specs.Sweep.{happens, limit, Few}
 use Rattle.book.specs.Book.{readBook, accepted}
-use Rattle.tables.specs.Tables.{Tables, nodes, built, Lent}
+use Rattle.tables.specs.Tables.{Tables, Sizes, build}
 use Rattle.scan.specs.declared.Scan.{Scan}
 use Rattle.scan.specs.State.{used}
 use Rattle.scan.specs.Start.{start}
@@ -51,19 +50,20 @@ expected false todo (carry ∷ cs) = first todo ∷ expected (isFetch (first tod
 expected true todo (give x ∷ cs) = first todo ∷ expected (isFetch (first todo)) (later todo) cs
 expected false todo (give x ∷ cs) = refused 11 0 ∷ expected false todo cs
 
--- The rounds of a list are those the rules make when each place they fetch gets the next byte taken.
-pub record Demand3 (tokens : List (List ℕ)) (n : ℕ) (calls : List Call) (r : Ran) : Type 0 where
+-- The rounds of a list are those the rules make when each place they fetch gets the next byte taken. `longest` is D.
+pub record Demand3 (book : List ℕ) (longest n : ℕ) (calls : List Call) (r : Ran) : Type 0 where
+  pub tokens : List (List ℕ)
+  pub read : readBook book ≡ accepted tokens
   pub said : r .said ≡ expected false (answers (happens tokens n (λ k p. getD (r .taken) k 0))) calls
   pub counted : r .last .supplied ≡ length (r .taken)
-  pub limited : length (r .taken) ≤ limit n (longestOf tokens)
-  pub fewNow : 4 ^ length (used (r .last .stretches)) ≤ longestOf tokens
-  pub fewBetween : Few (longestOf tokens) (happens tokens n (λ k p. getD (r .taken) k 0))
+  pub limited : length (r .taken) ≤ limit n longest
+  pub fewNow : 4 ^ length (used (r .last .stretches)) ≤ longest
+  pub fewBetween : Few longest (happens tokens n (λ k p. getD (r .taken) k 0))
 
--- Demand 3 in one piece: for every accepted book, all tables that begin with its built ones, every length that starting takes, and
--- every list of calls.
+-- Demand 3 in one piece. Building takes a book and lent tables, answers the number of nodes, S and D, and leaves tables; starting takes
+-- these numbers and a length; then any list of calls is made.
 unfoldable pub Demand3For : Type 0
 Demand3For =
-    (book : List ℕ) (tokens : List (List ℕ)) → readBook book ≡ accepted tokens →
-    (t : Tables) → Lent t (built tokens) →
-    (n : ℕ) (s : Scan) → start n (shortestOf tokens) (length (nodes tokens)) ≡ accepted s →
-    (calls : List Call) → Demand3 tokens n calls (ran t s calls)
+    (book : List ℕ) (lent : Tables) (sizes : Sizes) → build book lent .answer ≡ accepted sizes →
+    (n : ℕ) (s : Scan) → start n (sizes .shortest) (sizes .nodes) ≡ accepted s →
+    (calls : List Call) → Demand3 book (sizes .longest) n calls (ran (build book lent .tables) s calls)

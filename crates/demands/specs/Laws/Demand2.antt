@@ -21,6 +21,7 @@ use Rattle.scan.specs.Answers.{answers}
 use Rattle.whole.specs.Image.{room, counted, noted, sweepImage}
 use Rattle.scan.specs.Laws.Walk.{fresh-sat}
 use Rattle.scan.specs.Laws.Settle.{Settled, carry-settles}
+use Rattle.tables.specs.Laws.Made.{written-lent, build-made}
 use Rattle.demands.specs.Demand2.{swept, Demand2, Demand2For}
 use Rattle.demands.specs.Laws.Ready.{start-fresh, given, same-answers}
 use Rattle.demands.specs.Laws.Swept.{answers-end, answers-places, answers-hits, ends-over, swept-right}
@@ -55,9 +56,11 @@ module _ (book : List ℕ) (tokens : List (List ℕ)) (read : readBook book ≡ 
         })
     whole-image = cc (read, fits, le-ltb maxImage (length image) h)
 
-  image-demand2 : (tables : Tables) → tooShort tables tokens ≡ false → (s : Scan)
+  -- Demand 2 over any tables that begin with the built ones, be they long enough to build into or not; the whole image is swept with any
+  -- others that are.
+  pub image-demand2 : (tables : Tables) → tooShort tables tokens ≡ false → (s : Scan)
       → start (length image) (shortestOf tokens) (length (nodes tokens)) ≡ accepted s
-      → Demand2 tokens image (λ calls. swept t image calls (carryOn t s)) tables (sweepImage book image tables)
+      → Demand2 book image (λ calls. swept t image calls (carryOn t s)) (sweepImage book image tables) (written (built tokens) tables)
   image-demand2 tables fits s e =
       let f = start-fresh (length image) (shortestOf tokens) (length (nodes tokens)) s e in
       let es = happens tokens (length image) (bytesOf image) in
@@ -66,6 +69,8 @@ module _ (book : List ℕ) (tokens : List (List ℕ)) (read : readBook book ≡ 
       let found = answers-hits es (x .whole) in
       let call = whole-image tables fits (f .0) in
       record {
+        tokens = tokens;
+        read = read;
         whole = answers es;
         rules = refl;
         answered = λ calls.
@@ -84,4 +89,9 @@ module _ (book : List ℕ) (tokens : List (List ℕ)) (read : readBook book ≡ 
 
 pub demand2 : Demand2For
 unfolding Demand2For
-demand2 book tokens read t lent tables fits image s e = image-demand2 book tokens read t lent image tables fits s e
+demand2 book lent sizes made image s e =
+    let b = build-made book lent sizes made in
+    let t = written (built (b .tokens)) lent in
+    subst (λ t. Demand2 book image (λ calls. swept t image calls (carryOn t s)) (sweepImage book image lent) t) (sym (b .filled))
+    (image-demand2 book (b .tokens) (b .read) t (written-lent (built (b .tokens)) lent) image lent (b .fits) s
+    (subst (λ z. start (length image) (z .shortest) (z .nodes) ≡ accepted s) (b .sized) e))

@@ -1,7 +1,7 @@
 -- Demand 3 holds.
 use Prim.Native.Nat.{ℕ, suc, _+_, _*_, _≤_}
 use native.Mathlib.Omega.{arith}
-use mathlib.Core.Path.{_≡_, refl, ap, sym, _∙_}
+use mathlib.Core.Path.{_≡_, refl, ap, sym, subst, _∙_}
 use mathlib.Core.Bool.{false}
 use mathlib.Core.List.{List}
 use lib.ListN.{length, getD}
@@ -10,8 +10,9 @@ use Rattle.rules.specs.Tokens.{shortestOf, longestOf}
 use Rattle.rules.specs.Laws.Limit.Ends.{steps-enough}
 use Rattle.book.specs.Book.{readBook, accepted, maxImage}
 use Rattle.book.specs.Laws.Sweep.{book-few}
-use Rattle.tables.specs.Tables.{Tables, nodes, built, Lent}
+use Rattle.tables.specs.Tables.{Tables, nodes, built, Lent, written}
 use Rattle.tables.specs.Walks.{ofTables}
+use Rattle.tables.specs.Laws.Made.{written-lent, build-made}
 use Rattle.scan.specs.declared.Scan.{Scan}
 use Rattle.scan.specs.Start.{started, start}
 use Rattle.scan.specs.Answers.{answers}
@@ -22,7 +23,7 @@ use Rattle.demands.specs.Laws.Lists.{calls-right}
 
 module _ (book : List ℕ) (tokens : List (List ℕ)) (read : readBook book ≡ accepted tokens) (t : Tables) (lent : Lent t (built tokens)) where
   fresh-demand3 : (n : ℕ) → n ≤ maxImage → (calls : List Call)
-      → Demand3 tokens n calls (ran t (started n (shortestOf tokens) (length (nodes tokens))) calls)
+      → Demand3 book (longestOf tokens) n calls (ran t (started n (shortestOf tokens) (length (nodes tokens))) calls)
   fresh-demand3 n h calls =
       let S = shortestOf tokens in
       let D = longestOf tokens in
@@ -36,6 +37,8 @@ module _ (book : List ℕ) (tokens : List (List ℕ)) (read : readBook book ≡ 
       (fresh-sat g)
       (fuel, λ _. steps-enough n D S fuel (g .setting .positive) (omega arith), refl) refl in
       record {
+        tokens = tokens;
+        read = read;
         said = i .said ∙ ap (λ l. expected false l calls) (sym (same-answers book tokens read t lent n h (λ k p. getD all k 0)));
         counted = i .counted ∙ omega arith;
         limited = omega (arith, i .limited);
@@ -43,10 +46,17 @@ module _ (book : List ℕ) (tokens : List (List ℕ)) (read : readBook book ≡ 
         fewBetween = book-few book tokens read n (λ k p. getD all k 0);
       }
 
-  calls-demand3 : (n : ℕ) (s : Scan) → start n (shortestOf tokens) (length (nodes tokens)) ≡ accepted s → (calls : List Call)
-      → Demand3 tokens n calls (ran t s calls)
+  -- Demand 3 over any tables that begin with the built ones, be they long enough to build into or not.
+  pub calls-demand3 : (n : ℕ) (s : Scan) → start n (shortestOf tokens) (length (nodes tokens)) ≡ accepted s → (calls : List Call)
+      → Demand3 book (longestOf tokens) n calls (ran t s calls)
   calls-demand3 n s e calls = let f = start-fresh n (shortestOf tokens) (length (nodes tokens)) s e in rw (f .1) (fresh-demand3 n (f .0) calls)
 
 pub demand3 : Demand3For
 unfolding Demand3For
-demand3 = calls-demand3
+demand3 book lent sizes made n s e calls =
+    let b = build-made book lent sizes made in
+    let t = written (built (b .tokens)) lent in
+    let started = subst (λ z. start n (z .shortest) (z .nodes) ≡ accepted s) (b .sized) e in
+    subst (λ t. Demand3 book (sizes .longest) n calls (ran t s calls)) (sym (b .filled))
+    (subst (λ z. Demand3 book (z .longest) n calls (ran t s calls)) (sym (b .sized))
+    (calls-demand3 book (b .tokens) (b .read) t (written-lent (built (b .tokens)) lent) n s started calls))

@@ -1,13 +1,13 @@
 -- What building gives when it is not refused: the tokens' tables with what was behind them, the number of nodes, S and D.
 use Prim.Native.Nat.{ℕ, _+_}
 use native.Mathlib.Omega.{arith}
-use mathlib.Core.Path.{_≡_, refl, ap, subst}
+use mathlib.Core.Path.{_≡_, refl}
 use mathlib.Core.Bool.{true, false}
 use mathlib.Core.List.{List}
 use lib.ListN.{length, drop}
 use Rattle.rules.specs.Tokens.{total, shortestOf, longestOf}
 use Rattle.rules.specs.Laws.Tests.{decide}
-use Rattle.book.specs.Book.{Verdict, Reading, accepted, refused, readBook}
+use Rattle.book.specs.Book.{Reading, accepted, refused, readBook}
 use Rattle.tables.specs.Tables.{Tables, nodes, built, Lent, written, tooShort, Sizes, Building, build}
 
 abbrev pub sizesOf : List (List ℕ) → Sizes
@@ -32,34 +32,26 @@ answerTo t r = elim r [
   ]
 ]
 
--- The book is accepted, and the tables begin with the built ones.
-pub record Made (book : List ℕ) (sizes : Sizes) (t : Tables) : Type 0 where
+-- The book is accepted, the lent tables are long enough, and the tables left are the built ones over them.
+pub record Made (book : List ℕ) (lent : Tables) (sizes : Sizes) (t : Tables) : Type 0 where
   pub tokens : List (List ℕ)
   pub read : readBook book ≡ accepted tokens
+  pub fits : tooShort lent tokens ≡ false
   pub sized : sizes ≡ sizesOf tokens
-  pub lent : Lent t (built tokens)
+  pub filled : t ≡ written (built tokens) lent
 
-module _ (book : List ℕ) (lent t : Tables) (sizes : Sizes) where
+module _ (book : List ℕ) (lent : Tables) (sizes : Sizes) where
   abbrev Gives : Building → Type 0
-  Gives b = b ≡ record { answer = accepted sizes; tables = t } → Made book sizes t
+  Gives b = b .answer ≡ accepted sizes → Made book lent sizes (b .tables)
 
   refuses : (k v : ℕ) → Gives (record { answer = refused k v; tables = lent })
-  refuses k v e =
-      let a : _≡_ {A = Verdict Sizes} (refused k v) (accepted sizes) = ap (λ b. b .answer) e in
-      absurd (let z : _≡_ {A = ℕ} 0 1 = cc in omega arith)
+  refuses k v e = absurd (let z : _≡_ {A = ℕ} 0 1 = cc in omega arith)
 
   by-reading : (r : Reading) → readBook book ≡ r → Gives (answerTo lent r)
   by-reading (refused k v) e = refuses k v
   by-reading (accepted tokens) e =
       decide Gives (tooShort lent tokens) _ _ (λ _. refuses 7 (1 + total tokens))
-      (λ _ q.
-      let a : accepted (sizesOf tokens) ≡ accepted sizes = ap (λ b. b .answer) q in
-      record {
-        tokens = tokens;
-        read = e;
-        sized = cc;
-        lent = subst (λ t. Lent t (built tokens)) (ap (λ b. b .tables) q) (written-lent (built tokens) lent);
-      })
+      (λ fits a. record { tokens = tokens; read = e; fits = fits; sized = cc; filled = refl })
 
   pub build-made : Gives (build book lent)
   build-made = by-reading (readBook book) refl
