@@ -33,7 +33,7 @@ fn all_agree(body: &[u8], s: usize, matched: &[u8]) -> bool
     true
 }
 
-// The smallest s from 1 below `best` for which the token agrees with the matched bytes, or `best`.
+// The smallest s from 1 below `best` for which the token agrees with the matched bytes; `best` where there is none, and 1 where that is 0.
 pub fn node_least(body: &[u8], matched: &[u8], best: usize) -> usize
     ensures { λ r. ⌜ r ≡ least (nodeTest (now (matched .entry)) (now (body .entry))) 1 (best - 1) ⌝ }
 {
@@ -47,7 +47,7 @@ pub fn node_least(body: &[u8], matched: &[u8], best: usize) -> usize
     s
 }
 
-// The smallest s from 1 below `best` for which the token agrees with the byte x left of `depth` matched ones, or `best`.
+// The same for the byte x left of `depth` matched ones alone.
 pub fn byte_least(body: &[u8], depth: usize, x: u8, best: usize) -> usize
     ensures { λ r. ⌜ r ≡ least (byteTest depth x (now (body .entry))) 1 (best - 1) ⌝ }
 {

@@ -1,13 +1,21 @@
--- The sample sweeps P1 to P8 of document 01 as one table from the book's bytes on, and one result over its rows.
+-- The sample sweeps P1 to P8 of document 01 as one table from the book's bytes on, and one result over its rows; each sweep ends with
+-- done. And samples of calls from building on, one sweep and one list.
 use Prim.Native.Nat.{ℕ}
 use mathlib.Core.Path.{_≡_, refl}
 use mathlib.Core.Bool.{Bool, true, false, _&&_}
 use mathlib.Core.List.{List, [], _∷_}
 use lib.Dec.{eqb}
+use lib.ListN.{getD, replicate}
 use Rattle.rules.specs.Rules.{trace}
 use Rattle.rules.specs.Sweep.{happens}
 use Rattle.rules.specs.Examples.{Sample, a, b, x, p1, p2, p3, p4, p5, right}
 use Rattle.book.specs.Book.{Reading, readBook, accepted, refused}
+use Rattle.tables.specs.Tables.{Tables, Sizes, Building, built, build}
+use Rattle.scan.specs.Start.{started}
+use Rattle.scan.specs.Calls.{Answer, fetch, found, over, refused as denied, carryOn}
+use Rattle.scan.specs.Answers.{answers}
+use Rattle.demands.specs.Demand2.{swept}
+use Rattle.demands.specs.Demand3.{Call, carry, give, ran, expected}
 
 -- What a row says of its book: it is accepted, and its tokens make a sample sweep; or it is refused.
 data Outcome : Type 0 where
@@ -51,3 +59,40 @@ allHold (r ∷ rs) = holds (readBook (r .book)) (r .outcome) && allHold rs
 samples-hold : allHold rows ≡ true
 unfolding rows axbbx allHold holds happens trace
 samples-hold = refl
+
+-- "a" and "aa", built into tables of four entries: three nodes, S = 1, D = 2.
+abbrev made : Building
+made =
+    let nines : List ℕ = replicate 4 9 in
+    build (1 ∷ a ∷ 2 ∷ a ∷ a ∷ 0 ∷ []) (record { parent = nines; label = nines; token = nines; first = nines; next = nines })
+
+made-sizes : made .answer ≡ accepted (record { nodes = 3; shortest = 1; longest = 2 })
+made-sizes = refl
+
+-- Demand 2's calls, in the image "a": its byte is supplied, and the hit carried on from; after done no call is made.
+sweeps-right : swept (made .tables) (a ∷ []) 9 (carryOn (made .tables) (started 1 1 3)) ≡ fetch 0 ∷ found 1 1 ∷ over ∷ []
+unfolding built
+sweeps-right = refl
+
+-- Demand 3's calls, in any order: a byte before any is due, and carrying on when one is, meet 11 and take nothing.
+abbrev calls : List Call
+calls = give x ∷ carry ∷ carry ∷ give a ∷ give x ∷ carry ∷ carry ∷ []
+
+abbrev replies : List Answer
+replies = denied 11 0 ∷ fetch 0 ∷ denied 11 0 ∷ found 1 1 ∷ denied 11 0 ∷ over ∷ over ∷ []
+
+said-right : ran (made .tables) (started 1 1 3) calls .said ≡ replies
+unfolding built
+said-right = refl
+
+taken-right : ran (made .tables) (started 1 1 3) calls .taken ≡ a ∷ []
+unfolding built
+taken-right = refl
+
+counted-right : ran (made .tables) (started 1 1 3) calls .last .supplied ≡ 1
+unfolding built
+counted-right = refl
+
+expected-right : expected false (answers (happens ((a ∷ []) ∷ (a ∷ a ∷ []) ∷ []) 1 (λ k p. getD (a ∷ []) k 0))) calls ≡ replies
+unfolding happens trace
+expected-right = refl

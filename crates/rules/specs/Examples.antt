@@ -1,5 +1,5 @@
 -- Sample sweeps by the rules over tokens, as one table: P1 to P5 of document 01, and three that pin rule 4 and the byte taken from
--- a stretch. Each row says the hits, the places fetched, and the limit on them.
+-- a stretch. Each row says the hits, the places fetched, and the limit on them; and each sweep ends with done.
 use Prim.Native.Nat.{ℕ}
 use mathlib.Core.Path.{_≡_, refl}
 use mathlib.Core.Bool.{Bool, true, false, _&&_}
@@ -7,7 +7,7 @@ use mathlib.Core.List.{List, [], _∷_}
 use lib.Dec.{eqb}
 use lib.ListN.{length, replicate}
 use Rattle.rules.specs.Lists.{same}
-use Rattle.rules.specs.Rules.{trace}
+use Rattle.rules.specs.Rules.{Event, fetched, recalled, hit, shifted, done, trace}
 use Rattle.rules.specs.Tokens.{longestOf}
 use Rattle.rules.specs.Sweep.{happens, bytesOf, places, hits, limit}
 
@@ -101,11 +101,22 @@ samePairs [] (q ∷ qs) = false
 samePairs (p ∷ ps) [] = false
 samePairs (p ∷ ps) (q ∷ qs) = eqb (p .0) (q .0) && eqb (p .1) (q .1) && samePairs ps qs
 
+-- The sweep ends with done, which comes nowhere before.
+abbrev pub endsDone : {E : Type 0} → List (Event E) → Bool
+endsDone [] = false
+endsDone (fetched p ∷ es) = endsDone es
+endsDone (recalled p ∷ es) = endsDone es
+endsDone (hit e i ∷ es) = endsDone es
+endsDone (shifted b ss ∷ es) = endsDone es
+endsDone (done ∷ []) = true
+endsDone (done ∷ e ∷ es) = false
+
 -- What the rules make of the tokens and the image is what the row says.
 abbrev pub right : Sample → Bool
 right s =
     let es = happens (s .tokens) (length (s .image)) (bytesOf (s .image)) in
-    samePairs (hits es) (s .found) && same (places es) (s .fetches) && eqb (limit (length (s .image)) (longestOf (s .tokens))) (s .most)
+    samePairs (hits es) (s .found) && same (places es) (s .fetches) && endsDone es
+    && eqb (limit (length (s .image)) (longestOf (s .tokens))) (s .most)
 
 allRight : List Sample → Bool
 allRight [] = true
