@@ -11,7 +11,7 @@ use Rattle.rules.specs.Laws.Tests.{decide}
 use Rattle.book.specs.Book.{Verdict, Reading, accepted, refused, Totals, summary, readBook, maxImage}
 use Rattle.book.specs.Laws.Accepted.{accepted-fit}
 use Rattle.tables.specs.Tables.{Tables, nodes, built, Lent, written, tooShort, shortestTable, Sizes, Building, build}
-use Rattle.tables.specs.Laws.Made.{sizesOf, written-lent, answerTo}
+use Rattle.tables.specs.Laws.Made.{sizesOf, written-lent, answerTo, build-made}
 use Rattle.trie.specs.Laws.Answer.{Summed}
 use Rattle.tables.specs.Laws.Represents.{built-represents}
 use Rattle.whole.specs.Image.{Swept, tooLong, room, hitsOf, fetchesOf, counted, noted, sweepImage}
@@ -140,31 +140,16 @@ module _ (book : List ℕ) (t u : Tables) (sizes : Sizes) where
   abbrev made : Building
   made = record { answer = accepted sizes; tables = u }
 
-  unmade : (k v : ℕ) → made ≡ record { answer = refused k v; tables = t } → ⊥
-  unmade k v e =
-      let a : _≡_ {A = Verdict Sizes} (accepted sizes) (refused k v) = ap (λ b. b .answer) e in
-      let z : _≡_ {A = ℕ} 0 1 = cc in
-      omega arith
-
-  built-by : (r : Reading) → readBook book ≡ r → made ≡ answerTo t r → Built book t u sizes
-  built-by (refused k v) e = λ q. absurd (unmade k v q)
-  built-by (accepted tokens) e =
-      decide (λ b. made ≡ b → Built book t u sizes) (tooShort t tokens) _ _
-      (λ _ q. absurd (unmade 7 (1 + total tokens) q))
-      (λ l q.
-      let is : tokensOf book ≡ tokens = ap tokensIn e in
-      let a : accepted sizes ≡ accepted (sizesOf tokens) = ap (λ b. b .answer) q in
-      let b : u ≡ written (built tokens) t = ap (λ b. b .tables) q in
-      let s : sizes ≡ sizesOf tokens = cc in
-      record {
-        read = e ∙ ap accepted (sym is);
-        long = ap (tooShort t) is ∙ l;
-        sized = s ∙ ap sizesOf (sym is);
-        filled = b ∙ ap (λ ts. written (built ts) t) (sym is);
-      })
-
   pub is-built : made ≡ build book t → Built book t u sizes
-  is-built = built-by (readBook book) refl
+  is-built q =
+      let b = build-made book t sizes (sym (ap (λ b. b .answer) q)) in
+      let is : tokensOf book ≡ b .tokens = ap tokensIn (b .read) in
+      record {
+        read = b .read ∙ ap accepted (sym is);
+        long = ap (tooShort t) is ∙ b .fits;
+        sized = b .sized ∙ ap sizesOf (sym is);
+        filled = ap (λ b. b .tables) q ∙ b .filled ∙ ap (λ ts. written (built ts) t) (sym is);
+      }
 
 module _ {book : List ℕ} (image : List ℕ) {t u : Tables} {sizes : Sizes} (b : Built book t u sizes) (small : length image ≤ maxImage) where
   abbrev ts : List (List ℕ)

@@ -18,7 +18,7 @@ use Rattle.scan.specs.State.{configOf, treeOf}
 use Rattle.scan.specs.Calls.{Hit as Heard, noHit, hitOf, hitIn, moved, settle, enough}
 use Rattle.scan.specs.Results.{steppedOf}
 use Rattle.scan.specs.Steps.{Steady, foundOf, takenBy, Chosen}
-use Rattle.scan.specs.Laws.Slots.{slots-laid}
+use Rattle.scan.specs.Laws.Done.{moved-nowhere}
 use Rattle.scan.specs.Laws.Within.{moved-config, moved-slots}
 use Rattle.scan.specs.Laws.Stay.{next-within}
 use Rattle.scan.specs.Laws.Settle.{onHit, onNext}
@@ -62,7 +62,7 @@ module _ {t : Tables} {s : Scan} (steady : Steady t s) where
   pub begins : s .due ≡ false → Runs t s s
   begins e = record {
     config = configOf s;
-    stands = rw (← slots-laid s (steady .slots), ← e);
+    stands = moved-nowhere s (steady .slots) e;
     within = steady .within;
     rest = refl;
   }

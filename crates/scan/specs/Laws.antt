@@ -1,7 +1,7 @@
 -- The laws of the calls. Over tables that represent the tokens: what a state comes to (Walk), that it is in its ranges (Range),
 -- and that a call in turn answers what the rules say next (Settle). Over any tables that pass refusal 9: a state in its ranges
--- (Within) stays there by a step (Stay) and by a call (Kept), and is left as it is when the sweep is done (Done). Slots: the stretches in a state are those laid there. Of the code:
--- what it finds in the tables that it climbs (Ways, Memory).
+-- (Within) stays there by a step (Stay) and by a call (Kept), and carrying on when done changes nothing (Done). Slots: the stretches in
+-- a state are those laid there. Of the code: what it finds in the tables that it climbs (Ways, Memory).
 pub mod Mild
 pub mod Slots
 pub mod Ways

@@ -1,4 +1,4 @@
-// The view that the gateway reads the tables through: it borrows the book, and shows a node's entries with its token's body.
+// One node of the tables, through a view that borrows the book: its entries, and where its token's body stands in the book.
 mod entries;
 
 ghost use mathlib.Core.Path.{_≡_};
