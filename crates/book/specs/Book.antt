@@ -26,6 +26,11 @@ pub data Verdict (A : Type 0) : Type 0 where
   accepted : A → Verdict A
   refused : ℕ → ℕ → Verdict A
 
+-- the refusal's number and value, both 0 where there is none
+abbrev pub refusalIn : {A : Type 0} → Verdict A → ℕ × ℕ
+refusalIn (accepted a) = (0, 0)
+refusalIn (refused k v) = (k, v)
+
 -- Reading a book gives its tokens in book order.
 abbrev pub Reading : Type 0
 Reading = Verdict (List (List ℕ))

@@ -5,7 +5,7 @@ use mathlib.Core.Bool.{Bool, true, false, _&&_}
 use mathlib.Core.List.{List, [], _∷_}
 use lib.Dec.{eqb}
 use lib.ListN.{length, replicate}
-use Rattle.book.specs.Book.{Reading, accepted, refused, readFrom}
+use Rattle.book.specs.Book.{Reading, accepted, refused, refusalIn, readFrom, readBook}
 
 -- A book that is read on from its first byte, with the tokens before it, and the refusal.
 record Sample : Type 0 where
@@ -72,3 +72,10 @@ bodies-right = refl
 limits-first : allRight (row (letters 300) (1 ∷ 97 ∷ 0 ∷ []) 5 0 ∷ row (letters 300) (2 ∷ 97 ∷ []) 1 0 ∷ []) ≡ true
 unfolding row letters allRight right
 limits-first = refl
+
+-- The number comes first, then the value; both are 0 where there is no refusal.
+refused-told : refusalIn (readBook (1 ∷ 97 ∷ 1 ∷ 97 ∷ [])) ≡ (4, 2)
+refused-told = refl
+
+accepted-told : refusalIn (readBook (1 ∷ 97 ∷ 0 ∷ [])) ≡ (0, 0)
+accepted-told = refl

@@ -41,25 +41,33 @@ pub struct Numbered {
     pub value: usize,
 }
 
+impl Numbered {
+    pub fn row(number: usize, value: usize) -> Numbered
+        ensures { λ r. ⌜ (r .number ≡ number) × (r .value ≡ value) ⌝ }
+    {
+        Numbered { number, value }
+    }
+
+    pub fn none() -> Numbered
+        ensures { λ r. ⌜ (r .number ≡ 0) × (r .value ≡ 0) ⌝ }
+    {
+        Numbered::row(0, 0)
+    }
+}
+
 impl Refusal {
     pub fn numbered(self) -> Numbered
         ensures { λ r. ⌜ (r .number ≡ refusalOf self .0) × (r .value ≡ refusalOf self .1) ⌝ }
     {
         match self {
-            Refusal::Unfinished(at) => row(1, at),
-            Refusal::UnknownKind(at) => row(2, at),
-            Refusal::Trailing(at) => row(3, at),
-            Refusal::Repeat(at) => row(4, at),
-            Refusal::OverLimits(at) => row(5, at),
-            Refusal::NoToken => row(6, 0),
+            Refusal::Unfinished(at) => Numbered::row(1, at),
+            Refusal::UnknownKind(at) => Numbered::row(2, at),
+            Refusal::Trailing(at) => Numbered::row(3, at),
+            Refusal::Repeat(at) => Numbered::row(4, at),
+            Refusal::OverLimits(at) => Numbered::row(5, at),
+            Refusal::NoToken => Numbered::row(6, 0),
         }
     }
-}
-
-fn row(number: usize, value: usize) -> Numbered
-    ensures { λ r. ⌜ (r .number ≡ number) × (r .value ≡ value) ⌝ }
-{
-    Numbered { number, value }
 }
 
 // How many tokens there are, all body bytes, S and D.

@@ -1,2 +1,3 @@
--- Answers as numbers, for C.
+-- Answers as numbers, for C, and samples of them.
 pub mod Numbers
+pub mod Examples

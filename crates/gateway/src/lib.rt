@@ -1,15 +1,11 @@
 // What the gateway's C calls: building and the sweep of a whole image, with numbers for the answers.
-mod refusals;
 mod sweeps;
 
 ghost use mathlib.Core.Path.{_≡_};
-ghost use Rattle.book.specs.Book.{refused};
 ghost use Rattle.tables.specs.Tables.{build};
 ghost use Rattle.trie.specs.Answers.{tables, answerOf};
 ghost use Rattle.whole.specs.Image.{sweepImage};
 ghost use Rattle.gateway.specs.Numbers.{builtOf, sweptOf};
-use refusals::Refused;
-use refusals::number_of;
 use trie::Building;
 
 // The sizes of built tables, or a refusal's number and value; 0 for what there is not.
@@ -31,23 +27,11 @@ pub struct Swept {
     pub fetched: u64,
 }
 
-// No table is built.
-fn not_built(why: Refused) -> Built
-    ensures { λ r. ⌜ r ≡ builtOf (refused (why .number) (why .value)) ⌝ }
-{
-    Built {
-        refusal: why.number,
-        value: why.value,
-        nodes: 0,
-        shortest: 0,
-        longest: 0,
-    }
-}
-
 // What building answers, in numbers.
 fn numbers(made: Building) -> Built
     ensures { λ r. ⌜ r ≡ builtOf (answerOf made) ⌝ }
 {
+    let why = made.numbered();
     match made {
         Building::Made(sizes) => Built {
             refusal: 0,
@@ -56,11 +40,13 @@ fn numbers(made: Building) -> Built
             shortest: sizes.shortest as u64,
             longest: sizes.longest as u64,
         },
-        Building::Unread(why) => not_built(number_of(why)),
-        Building::TooShort(room) => not_built(Refused {
-            number: 7,
-            value: room as u64,
-        }),
+        _ => Built {
+            refusal: why.number as u64,
+            value: why.value as u64,
+            nodes: 0,
+            shortest: 0,
+            longest: 0,
+        },
     }
 }
 

@@ -8,7 +8,7 @@ use lib.ListN.{length, getD}
 use Rattle.rules.specs.Lists.{anyOf}
 use Rattle.rules.specs.Rules.{Stretch}
 use Rattle.rules.specs.Tokens.{ends, ofTokens, shiftOf, shortestOf, longestOf}
-use Rattle.book.specs.Book.{readBook, accepted, maxImage, maxBody}
+use Rattle.book.specs.Book.{readBook, accepted, maxBodies, maxImage, maxBody}
 use Rattle.book.specs.Laws.Accepted.{accepted-setting}
 use Rattle.trie.specs.Answers.{tables}
 use Rattle.tables.specs.Laws.Represents.{Represents}
@@ -28,7 +28,7 @@ pub record Given (book image label token first next : List ℕ) (count shortest 
   pub parent : List ℕ
   pub read : Accepted book shortest
   pub stands : Represents (tables parent label token first next) count (tokensOf book)
-  pub nodes : count ≤ 16385
+  pub nodes : count ≤ 1 + maxBodies
   pub within : length image ≤ maxImage
 
 -- Where a sweep stands: the boundary, what is remembered, and how many bytes were fetched and hits found so far.
@@ -104,7 +104,7 @@ module _ (book image : List ℕ) where
 
   -- The caches, right for a book and an image.
   pub record Caches (shortest : ℕ) (nodes bytes skip pairs : List ℕ) : Type 0 where
-    pub size : length nodes ≡ 16385
+    pub size : length nodes ≡ 1 + maxBodies
     pub by-node : ByNode book shortest nodes
     pub by-byte : ByByte book shortest bytes
     pub by-skip : BySkip book shortest skip

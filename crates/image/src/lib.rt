@@ -8,11 +8,13 @@ mod turn;
 mod walk;
 
 ghost use mathlib.Core.Path.{_≡_};
+ghost use Rattle.book.specs.Book.{refusalIn};
 ghost use Rattle.tables.specs.Tables.{Tables, shortestTable};
 ghost use Rattle.trie.specs.Answers.{tables};
 ghost use Rattle.whole.specs.Image.{counted, sweepImage};
 ghost use Rattle.image.specs.Results.{sweptOf, fetchedOf, refusalFor};
 use book::Book;
+use book::Numbered;
 use book::Reading;
 use book::Refusal;
 use trie::Building;
@@ -32,6 +34,20 @@ pub enum Swept {
     TooShort(usize),
     TooLong(usize),
     TooMany(Found),
+}
+
+impl Swept {
+    pub fn numbered(self) -> Numbered
+        ensures { λ r. ⌜ (r .number ≡ refusalIn (sweptOf self) .0) × (r .value ≡ refusalIn (sweptOf self) .1) ⌝ }
+    {
+        match self {
+            Swept::Whole(_) => Numbered::none(),
+            Swept::Unread(why) => why.numbered(),
+            Swept::TooShort(room) => Numbered::row(7, room),
+            Swept::TooLong(most) => Numbered::row(8, most),
+            Swept::TooMany(found) => Numbered::row(12, found.hits),
+        }
+    }
 }
 
 // Refusals 1 to 8 where the image is over its limit: nothing is built. `entries` is the shortest table's length.

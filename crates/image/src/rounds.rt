@@ -11,6 +11,7 @@ use crate::spans;
 use crate::turn::attempt;
 use crate::turn::forgets;
 use crate::walk;
+use book::Book;
 
 // All rounds. The stretches are a variable of their own: most rounds leave them alone.
 fn rounds(
@@ -100,7 +101,7 @@ pub fn sweep(
         (hitsOf (tokensOf (now (book .entry))) (now (image .entry))) (now (tokens .entry)) ⌝ }
 {
     let kids = walk::root_children(label, first, next, count);
-    let mut nodes = [0u16; 16385];
+    let mut nodes = [0u16; 1 + Book::BODIES];
     let mut bytes = [0u16; 16384];
     let mut skip = [0u16; 256];
     let mut pairs = [0u16; 65536];

@@ -3,6 +3,7 @@ ghost use Prim.Native.Nat.{ℕ, _^_, _≤_, _<_};
 ghost use mathlib.Core.Path.{_≡_};
 ghost use mathlib.Core.Bool.{true};
 ghost use lib.ListN.{length};
+ghost use Rattle.book.specs.Book.{maxBody};
 ghost use Rattle.image.specs.Sweeping.{Cached, Four, Paired, Skimmable, Skimmed};
 use trie::entries::wide;
 
@@ -25,7 +26,7 @@ const SHORT: usize = 255;
 
 // Whether four rounds from b on shift by the shortest token's length each: no look waits for the one before.
 fn full(image: &[u8], skip: &[u16], b: usize, shortest: usize) -> bool
-    requires numbers { ⌜ (1 ≤ b) × (b ≤ 2 ^ 32) × (shortest ≤ 1024) × (length (now skip) ≡ 256) ⌝ }
+    requires numbers { ⌜ (1 ≤ b) × (b ≤ 2 ^ 32) × (shortest ≤ maxBody) × (length (now skip) ≡ 256) ⌝ }
     requires upto { ⌜ ((b by : ℕ) → Cached (now image) (now skip) b by → by ≤ shortest) ⌝ }
     ensures { λ r. ⌜ (r ≡ true → Four (now (image .entry)) (now (skip .entry)) b shortest) ⌝ }
 {

@@ -5,6 +5,7 @@ ghost use mathlib.Core.Bool.{_&&_};
 ghost use mathlib.Core.List.{List};
 ghost use lib.Dec.{eqb, ltb};
 ghost use lib.ListN.{length};
+ghost use Rattle.book.specs.Book.{maxBody};
 ghost use Rattle.image.specs.Rounds.{met};
 ghost use Rattle.image.specs.Walk.{treeIn, Kids, Noted};
 ghost use Rattle.image.specs.Rule5.{BySkip};
@@ -31,7 +32,7 @@ fn lowest(b: usize, depth: usize, stop: Stop) -> usize
 
 // A round that ended at its first byte can be skimmed from now on.
 fn learn(skip: &mut [u16], depth: usize, stop: Stop, by: usize)
-    requires { ⌜ (by ≤ 1024) × (length (now skip) ≡ 256) ⌝ }
+    requires { ⌜ (by ≤ maxBody) × (length (now skip) ≡ 256) ⌝ }
     ensures { λ r. ⌜ ((book : List ℕ) (shortest : ℕ) → Learns book shortest depth stop by
         → BySkip book shortest (now (skip .entry)) → BySkip book shortest (now (skip .exit))) ⌝ }
 {
@@ -45,7 +46,7 @@ fn learn(skip: &mut [u16], depth: usize, stop: Stop, by: usize)
 
 // The same for a round that ended at its second byte, and met no token.
 fn learn_pair(pairs: &mut [u16], first: u8, depth: usize, stop: Stop, marked: bool, by: usize)
-    requires { ⌜ (by ≤ 1024) × (length (now pairs) ≡ 65536) ⌝ }
+    requires { ⌜ (by ≤ maxBody) × (length (now pairs) ≡ 65536) ⌝ }
     ensures { λ r. ⌜ ((book image : List ℕ) → Sees book image first depth stop marked by
         → ByPair book image (now (pairs .entry)) → ByPair book image (now (pairs .exit))) ⌝ }
 {
@@ -59,7 +60,7 @@ fn learn_pair(pairs: &mut [u16], first: u8, depth: usize, stop: Stop, marked: bo
 
 // Whether nothing is remembered after a round that matched so much, when nothing was before: rule 6 for its own stretch.
 pub fn forgets(used: usize, depth: usize, by: usize) -> bool
-    requires { ⌜ by ≤ 1024 ⌝ }
+    requires { ⌜ by ≤ maxBody ⌝ }
     ensures { λ r. ⌜ r ≡ (eqb used 0 && ltb depth (4 * by)) ⌝ }
 {
     used == 0 && depth < 4 * by

@@ -1,9 +1,10 @@
 // A round's way down the tree, and the hits on it.
-ghost use Prim.Native.Nat.{ℕ, _*_, _^_, _≤_, _<_};
+ghost use Prim.Native.Nat.{ℕ, _+_, _*_, _^_, _≤_, _<_};
 ghost use mathlib.Core.Path.{_≡_};
 ghost use mathlib.Core.List.{[]};
 ghost use mathlib.Core.Option.{some};
 ghost use lib.ListN.{length};
+ghost use Rattle.book.specs.Book.{maxTokens, maxBodies, maxImage};
 ghost use Rattle.tables.specs.Walks.{childBy};
 ghost use Rattle.trie.specs.Answers.{tables, childOf};
 ghost use Rattle.whole.specs.Image.{room};
@@ -39,7 +40,7 @@ fn number_of(child: Child) -> u16
 
 // The root's children by label, 0 for none.
 pub fn root_children(label: &[u8], first: &[u16], next: &[u16], count: usize) -> [u16; 256]
-    requires { ⌜ ((x w : ℕ) → childBy (tables [] (now label) [] (now first) (now next)) count 0 x ≡ some w → w < 16385) ⌝ }
+    requires { ⌜ ((x w : ℕ) → childBy (tables [] (now label) [] (now first) (now next)) count 0 x ≡ some w → w < 1 + maxBodies) ⌝ }
     ensures { λ r. ⌜ Kids (now (label .entry)) (now (first .entry)) (now (next .entry)) count r ⌝ }
 {
     let mut kids = [0u16; 256];
@@ -108,7 +109,7 @@ fn descend(
 
 // A hit's end and token, if both buffers have room for it.
 fn put(ends: &mut [u32], tokens: &mut [u32], i: usize, end: usize, number: usize)
-    requires { ⌜ (end ≤ 16777216) × (number ≤ 256) ⌝ }
+    requires { ⌜ (end ≤ maxImage) × (number ≤ maxTokens) ⌝ }
     ensures ends { λ r. ⌜ now (ends .exit) ≡ note (room (now (ends .entry)) (now (tokens .entry))) i end (now (ends .entry)) ⌝ }
     ensures tokens { λ r. ⌜ now (tokens .exit) ≡ note (room (now (ends .entry)) (now (tokens .entry))) i number (now (tokens .entry)) ⌝ }
 {
@@ -131,7 +132,7 @@ fn mark(
     ends: &mut [u32],
     tokens: &mut [u32],
 ) -> usize
-    requires place { ⌜ (0 < b) × (b ≤ length (now image)) × (b ≤ 16777216) × (hits ≤ 1024 * 1024 * 1024 * 1024) ⌝ }
+    requires place { ⌜ (0 < b) × (b ≤ length (now image)) × (b ≤ maxImage) × (hits ≤ 1024 * 1024 * 1024 * 1024) ⌝ }
     requires tables { ⌜ Walkable (now label) (now token) (now first) (now next) count ⌝ }
     ensures { λ r.
         let found = met (treeIn (now (label .entry)) (now (token .entry)) (now (first .entry)) (now (next .entry)) count) (now (image .entry)) b in
@@ -179,7 +180,7 @@ pub fn meet(
     ends: &mut [u32],
     tokens: &mut [u32],
 ) -> Met
-    requires place { ⌜ (0 < b) × (b ≤ length (now image)) × (b ≤ 16777216) × (hits ≤ 2 ^ 36) ⌝ }
+    requires place { ⌜ (0 < b) × (b ≤ length (now image)) × (b ≤ maxImage) × (hits ≤ 2 ^ 36) ⌝ }
     requires tables { ⌜ Walkable (now label) (now token) (now first) (now next) count ⌝ }
     requires kids { ⌜ Kids (now label) (now first) (now next) count (now kids) ⌝ }
     ensures arrival { λ r. ⌜ r .arrival ≡ arrivalOf (reached (treeIn (now (label .entry)) (now (token .entry)) (now (first .entry)) (now (next .entry)) count) (now (image .entry)) b) ⌝ }

@@ -1,4 +1,5 @@
 -- Samples: the numbers of each kind of answer, and a state through its numbers and back.
+use Prim.{tt}
 use Prim.Native.Nat.{ℕ}
 use mathlib.Core.Path.{_≡_, refl}
 use mathlib.Core.List.{List, [], _∷_, _++_}
@@ -24,7 +25,7 @@ answers =
     plain (readingOf (refused 4 12)) ∷ plain (readingOf (accepted (record { tokens = 3; bodies = 20; shortest = 2; longest = 16 })))
     ∷ plain (placeOf (found 7 5)) ∷ plain (placeOf missing) ∷ plain (placeOf unread)
     ∷ plain (sizesTold (refused 7 21)) ∷ plain (sizesTold (accepted (record { nodes = 19; shortest = 2; longest = 16 })))
-    ∷ plain (testedOf none) ∷ plain (testedOf (some 9))
+    ∷ plain (testedOf (accepted tt)) ∷ plain (testedOf (refused 9 8))
     ∷ plain (childOf (some 8)) ∷ plain (childOf none)
     ∷ plain (wayOf (Found 8)) ∷ plain (wayOf (Ends 8))
     ∷ plain (stepOf (fetch 9)) ∷ plain (stepOf (hit 9 2)) ∷ plain (stepOf over) ∷ plain (stepOf (denied 9 9))
@@ -34,7 +35,7 @@ answers-told : answers
     ≡ (0 ∷ 4 ∷ 12 ∷ 0 ∷ 0 ∷ []) ∷ (1 ∷ 3 ∷ 20 ∷ 2 ∷ 16 ∷ [])
     ∷ (1 ∷ 7 ∷ 5 ∷ 0 ∷ 0 ∷ []) ∷ (2 ∷ 0 ∷ 0 ∷ 0 ∷ 0 ∷ []) ∷ (3 ∷ 0 ∷ 0 ∷ 0 ∷ 0 ∷ [])
     ∷ (0 ∷ 7 ∷ 21 ∷ 0 ∷ 0 ∷ []) ∷ (1 ∷ 19 ∷ 2 ∷ 16 ∷ 0 ∷ [])
-    ∷ (1 ∷ 0 ∷ 0 ∷ 0 ∷ 0 ∷ []) ∷ (0 ∷ 9 ∷ 9 ∷ 0 ∷ 0 ∷ [])
+    ∷ (1 ∷ 0 ∷ 0 ∷ 0 ∷ 0 ∷ []) ∷ (0 ∷ 9 ∷ 8 ∷ 0 ∷ 0 ∷ [])
     ∷ (1 ∷ 8 ∷ 0 ∷ 0 ∷ 0 ∷ []) ∷ (2 ∷ 0 ∷ 0 ∷ 0 ∷ 0 ∷ [])
     ∷ (1 ∷ 8 ∷ 0 ∷ 0 ∷ 0 ∷ []) ∷ (2 ∷ 8 ∷ 0 ∷ 0 ∷ 0 ∷ [])
     ∷ (1 ∷ 9 ∷ 0 ∷ 0 ∷ 0 ∷ []) ∷ (2 ∷ 9 ∷ 2 ∷ 0 ∷ 0 ∷ []) ∷ (3 ∷ 0 ∷ 0 ∷ 0 ∷ 0 ∷ []) ∷ (0 ∷ 9 ∷ 9 ∷ 0 ∷ 0 ∷ [])

@@ -1,5 +1,6 @@
 -- Answers as a kind and four numbers. Kind 0 is a refusal, with its number and value; the others are given with each call. Numbers
 -- that there are not are 0. Different answers to a call have different numbers.
+use Prim.{Unit}
 use Prim.Native.Nat.{ℕ}
 use mathlib.Core.List.{[], _∷_}
 use mathlib.Core.Option.{Option, some, none}
@@ -41,9 +42,9 @@ abbrev pub buildingOf : Building → Built
 buildingOf b = record { told = sizesTold (b .answer); tables = b .tables }
 
 -- The test of tables: 1, they are a tree; or refusal 9.
-abbrev pub testedOf : Option ℕ → Told
-testedOf none = told 1 0 0 0 0
-testedOf (some v) = refusal 9 v
+abbrev pub testedOf : Verdict Unit → Told
+testedOf (accepted u) = told 1 0 0 0 0
+testedOf (refused k v) = refusal k v
 
 -- A child: 1, its node; 2, there is none.
 abbrev pub childOf : Option ℕ → Told

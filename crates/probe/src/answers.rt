@@ -1,11 +1,12 @@
 // What the calls answer, in numbers.
 ghost use mathlib.Core.Path.{_≡_};
-ghost use Rattle.book.specs.Answers.{refusalOf, verdictOf, placeOf as spotOf};
+ghost use Rattle.book.specs.Answers.{verdictOf, placeOf as spotOf};
 ghost use Rattle.trie.specs.Answers.{answerOf as sizesOf, testedOf as breakOf, childOf as nodeOf};
 ghost use Rattle.scan.specs.declared.Scan.{Scan};
 ghost use Rattle.scan.specs.Results.{answerOf, verdictOf as readyOf};
 ghost use Rattle.probe.specs.Numbers.{told, refusal, readingOf, placeOf, sizesTold, testedOf, childOf, wayOf, openingOf, stepOf};
 use crate::Told;
+use book::Numbered;
 use scan::Answer;
 use scan::Opening;
 
@@ -18,24 +19,10 @@ pub fn tell(kind: usize, a: usize, b: usize, c: usize, d: usize) -> Told
     }
 }
 
-pub fn refused(number: usize, value: usize) -> Told
-    ensures { λ r. ⌜ r ≡ refusal number value ⌝ }
+fn refused(why: Numbered) -> Told
+    ensures { λ r. ⌜ r ≡ refusal (why .number) (why .value) ⌝ }
 {
-    tell(0, number, value, 0, 0)
-}
-
-// Document 01's number of each refusal of a book.
-fn unread(why: book::Refusal) -> Told
-    ensures { λ r. ⌜ r ≡ refusal (refusalOf why .0) (refusalOf why .1) ⌝ }
-{
-    match why {
-        book::Refusal::Unfinished(at) => refused(1, at),
-        book::Refusal::UnknownKind(at) => refused(2, at),
-        book::Refusal::Trailing(at) => refused(3, at),
-        book::Refusal::Repeat(at) => refused(4, at),
-        book::Refusal::OverLimits(at) => refused(5, at),
-        book::Refusal::NoToken => refused(6, 0),
-    }
+    tell(0, why.number, why.value, 0, 0)
 }
 
 pub fn reading(answer: book::Reading) -> Told
@@ -43,7 +30,7 @@ pub fn reading(answer: book::Reading) -> Told
 {
     match answer {
         book::Reading::Accepted(t) => tell(1, t.tokens, t.bodies, t.shortest, t.longest),
-        book::Reading::Refused(why) => unread(why),
+        book::Reading::Refused(why) => refused(why.numbered()),
     }
 }
 
@@ -62,8 +49,8 @@ pub fn building(answer: trie::Building) -> Told
 {
     match answer {
         trie::Building::Made(s) => tell(1, s.nodes, s.shortest, s.longest, 0),
-        trie::Building::Unread(why) => unread(why),
-        trie::Building::TooShort(room) => refused(7, room),
+        trie::Building::Unread(_) => refused(answer.numbered()),
+        trie::Building::TooShort(_) => refused(answer.numbered()),
     }
 }
 
@@ -72,7 +59,7 @@ pub fn tested(answer: trie::Tested) -> Told
 {
     match answer {
         trie::Tested::Sound => tell(1, 0, 0, 0, 0),
-        trie::Tested::Breaks(node) => refused(9, node),
+        trie::Tested::Breaks(_) => refused(answer.numbered()),
     }
 }
 
@@ -99,7 +86,7 @@ pub fn opening(answer: Opening) -> Told
 {
     match answer {
         Opening::Ready => tell(1, 0, 0, 0, 0),
-        Opening::TooLong(limit) => refused(8, limit),
+        Opening::TooLong(_) => refused(answer.numbered()),
     }
 }
 
@@ -110,8 +97,8 @@ pub fn step(answer: Answer) -> Told
         Answer::Fetch(place) => tell(1, place, 0, 0, 0),
         Answer::Hit(end, token) => tell(2, end, token, 0, 0),
         Answer::Done => tell(3, 0, 0, 0, 0),
-        Answer::Broken(node) => refused(9, node),
-        Answer::OutOfRange => refused(10, 0),
-        Answer::OutOfTurn => refused(11, 0),
+        Answer::Broken(_) => refused(answer.numbered()),
+        Answer::OutOfRange => refused(answer.numbered()),
+        Answer::OutOfTurn => refused(answer.numbered()),
     }
 }

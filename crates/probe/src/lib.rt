@@ -6,7 +6,7 @@ ghost use mathlib.Core.Path.{_≡_};
 ghost use mathlib.Core.List.{[]};
 ghost use Rattle.book.specs.Book.{readBook, summary, placeIn, wholeAt};
 ghost use Rattle.tables.specs.Tables.{build};
-ghost use Rattle.tables.specs.Broken.{broken};
+ghost use Rattle.tables.specs.Broken.{broken, tested};
 ghost use Rattle.tables.specs.Walks.{childBy};
 ghost use Rattle.trie.specs.Chain.{walked};
 ghost use Rattle.trie.specs.Answers.{tables};
@@ -77,7 +77,7 @@ pub extern "C" fn probe_test(
 ) -> Told
     ensures { λ r.
         let t = tables (now (parent .entry)) (now (label .entry)) (now (token .entry)) (now (first .entry)) (now (next .entry)) in
-        ⌜ r ≡ testedOf (broken t count) ⌝ }
+        ⌜ r ≡ testedOf (tested (broken t count)) ⌝ }
 {
     answers::tested(trie::first_break(parent, label, token, first, next, count))
 }

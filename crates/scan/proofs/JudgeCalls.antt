@@ -1,12 +1,14 @@
 -- How a step is judged, and what the calls do then.
+use Prim.{Unit}
 use Prim.Native.Nat.{ℕ, zero, suc}
 use native.Mathlib.Omega.{arith}
 use mathlib.Core.Path.{_≡_, refl, ap, sym, subst, _∙_}
 use mathlib.Core.Bool.{Bool, true, false}
-use mathlib.Core.Option.{some, none}
+use mathlib.Core.Option.{Option, some, none}
 use Rattle.rules.specs.Rules.{Config, Step, Next, finished, wants, goes, takeByte, next}
 use Rattle.tables.specs.Tables.{Tables}
-use Rattle.tables.specs.Broken.{broken}
+use Rattle.book.specs.Book.{Verdict, accepted, refused}
+use Rattle.tables.specs.Broken.{broken, tested}
 use Rattle.trie.specs.Answers.{testedOf}
 use Rattle.trie.specs.declared.Tested.{Tested}
 use Rattle.trie.specs.declared.Tested.the-variants.{Sound, Breaks}
@@ -33,13 +35,25 @@ abbrev pub turned : Bool → Judged
 turned true = Refused OutOfTurn
 turned false = Admitted
 
+-- the first break, of what the test answers
+abbrev breakIn : Verdict Unit → Option ℕ
+breakIn (accepted u) = none
+breakIn (refused k v) = some v
+
+break-in : (b : Option ℕ) → b ≡ breakIn (tested b)
+break-in none = refl
+break-in (some v) = refl
+
 module _ (t : Tables) (s : Scan) (turn : Bool) where
-  module _ (k : Tested) (is : testedOf k ≡ broken t (s .count)) where
+  module _ (k : Tested) (is : testedOf k ≡ tested (broken t (s .count))) where
+    broke : (j : Tested) → k ≡ j → broken t (s .count) ≡ breakIn (testedOf j)
+    broke j e = break-in (broken t (s .count)) ∙ ap breakIn (sym is ∙ ap testedOf e)
+
     pub judged-broken : (v : ℕ) → k ≡ Breaks v → judgedOf (Refused (Broken v)) ≡ judged t s turn
-    judged-broken v e = let b : broken t (s .count) ≡ some v = sym is ∙ ap testedOf e in cc
+    judged-broken v e = let b : broken t (s .count) ≡ some v = broke (Breaks v) e in cc
 
     pub unbroken : k ≡ Sound → broken t (s .count) ≡ none
-    unbroken e = sym is ∙ ap testedOf e
+    unbroken e = broke Sound e
 
   module _ (b : broken t (s .count) ≡ none) where
     pub judged-out : inRange t s ≡ false → judgedOf (Refused OutOfRange) ≡ judged t s turn

@@ -21,6 +21,13 @@ pub record Stepped : Type 0 where
   pub state : Scan
   pub answer : Answer
 
+-- the refusal's number and value, both 0 where there is none
+abbrev pub stepRefusal : Answer → ℕ × ℕ
+stepRefusal (fetch p) = (0, 0)
+stepRefusal (found e i) = (0, 0)
+stepRefusal over = (0, 0)
+stepRefusal (refused k v) = (k, v)
+
 -- the same state at another configuration
 abbrev pub moved : Scan → Config ℕ → Bool → Scan
 moved s c due = record {

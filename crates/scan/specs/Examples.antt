@@ -12,7 +12,7 @@ use Rattle.tables.specs.Tables.{Tables}
 use Rattle.scan.specs.declared.Scan.{Scan}
 use Rattle.scan.specs.State.{laid, inRange}
 use Rattle.scan.specs.Start.{started, start}
-use Rattle.scan.specs.Calls.{over, refused, agree, judged, carryOn}
+use Rattle.scan.specs.Calls.{fetch, over, refused, stepRefusal, agree, judged, carryOn}
 
 count : ℕ → ℕ → List ℕ
 count from zero = []
@@ -183,3 +183,10 @@ still-done : carryOn chain (row 30 20 21 31 5 5 [] false 7 true .state)
     ≡ record { state = row 30 20 21 31 5 5 [] false 7 true .state; answer = over }
 unfolding chain count row
 still-done = refl
+
+-- The number comes first, then the value; both are 0 where there is no refusal.
+refused-told : stepRefusal (refused 9 4) ≡ (9, 4)
+refused-told = refl
+
+fetch-told : stepRefusal (fetch 24) ≡ (0, 0)
+fetch-told = refl

@@ -8,11 +8,13 @@ mod steps;
 mod stretches;
 
 ghost use mathlib.Core.Path.{_≡_};
+ghost use Rattle.book.specs.Book.{refusalIn};
 ghost use Rattle.trie.specs.Answers.{tables};
 ghost use Rattle.scan.specs.Start.{started, start};
-ghost use Rattle.scan.specs.Calls.{counted, carryOn, supply};
-ghost use Rattle.scan.specs.Results.{opened, startedOf, steppedOf};
+ghost use Rattle.scan.specs.Calls.{stepRefusal, counted, carryOn, supply};
+ghost use Rattle.scan.specs.Results.{verdictOf, opened, startedOf, answerOf, steppedOf};
 use book::Book;
+use book::Numbered;
 use judge::Judged;
 use judge::judge;
 use ranges::SUPPLIED;
@@ -48,6 +50,17 @@ pub enum Opening {
     TooLong(usize),
 }
 
+impl Opening {
+    pub fn numbered(self) -> Numbered
+        ensures { λ r. ⌜ ((s : Scan) → (r .number ≡ refusalIn (verdictOf s self) .0) × (r .value ≡ refusalIn (verdictOf s self) .1)) ⌝ }
+    {
+        match self {
+            Opening::Ready => Numbered::none(),
+            Opening::TooLong(most) => Numbered::row(8, most),
+        }
+    }
+}
+
 // The state to step from: where starting is refused, one that every step refuses.
 pub struct Started {
     pub state: Scan,
@@ -62,6 +75,21 @@ pub enum Answer {
     Broken(usize),
     OutOfRange,
     OutOfTurn,
+}
+
+impl Answer {
+    pub fn numbered(self) -> Numbered
+        ensures { λ r. ⌜ (r .number ≡ stepRefusal (answerOf self) .0) × (r .value ≡ stepRefusal (answerOf self) .1) ⌝ }
+    {
+        match self {
+            Answer::Fetch(_) => Numbered::none(),
+            Answer::Hit(_, _) => Numbered::none(),
+            Answer::Done => Numbered::none(),
+            Answer::Broken(node) => Numbered::row(9, node),
+            Answer::OutOfRange => Numbered::row(10, 0),
+            Answer::OutOfTurn => Numbered::row(11, 0),
+        }
+    }
 }
 
 // The next state, and what the step answers.

@@ -6,6 +6,7 @@ use crate::spell::run_end;
 use crate::stretches::Holder;
 use crate::stretches::in_use;
 use crate::stretches::seek;
+use book::Book;
 use trie::entries::wide;
 ghost use Prim.Native.Nat.{ℕ, _≤_, _<_};
 ghost use mathlib.Core.Path.{_≡_};
@@ -22,14 +23,12 @@ ghost use Rattle.scan.specs.Ways.{paths, Rises, Climbs};
 ghost use Rattle.scan.specs.Ranges.{Passing};
 ghost use Rattle.scan.specs.Memory.{covers};
 
-// The ends of the ranges: of the node count, N, S, b past the end of the image, and the bytes supplied.
-const NODES: usize = 16385;
+// The ends of the ranges: of the node count, S, b past the end of the image, and the bytes supplied.
+const NODES: usize = 1 + Book::BODIES;
 
-const IMAGE: usize = 16777216;
+const SHORTEST: usize = Book::BODY;
 
-const SHORTEST: usize = 1024;
-
-const PAST: usize = 1024;
+const PAST: usize = Book::BODY;
 
 pub const SUPPLIED: usize = 1000000000;
 
@@ -137,7 +136,7 @@ pub fn in_range(parent: &[u16], first: &[u16], scan: Scan) -> bool
     requires { ⌜ Passing (now parent) (now first) (scan .count) ⌝ }
     ensures { λ r. ⌜ ((label token next : List ℕ) → r ≡ inRange (tables (now (parent .entry)) label token (now (first .entry)) next) scan) ⌝ }
 {
-    if !between(1, scan.count, NODES) || scan.image > IMAGE {
+    if !between(1, scan.count, NODES) || scan.image > Book::IMAGE {
         return false;
     }
     if !between(1, scan.shortest, SHORTEST) || !lies(parent, scan.count, scan.node, scan.depth) {

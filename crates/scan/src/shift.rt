@@ -7,12 +7,14 @@ ghost use mathlib.Core.List.{[]};
 ghost use lib.ListN.{length, getD};
 ghost use Rattle.rules.specs.Lists.{least};
 ghost use Rattle.rules.specs.Tokens.{shiftOf};
+ghost use Rattle.book.specs.Book.{maxBody};
 ghost use Rattle.agree.specs.Tests.{nodeTest, byteTest, leastOf};
 ghost use Rattle.tables.specs.Walks.{ending, words};
 ghost use Rattle.trie.specs.Answers.{tables};
 ghost use Rattle.scan.specs.Ways.{paths, Readable, Spells};
 ghost use Rattle.scan.specs.Shifts.{closingOf, Bare};
 use crate::spell;
+use book::Book;
 
 // The byte that ended a round, if there was one.
 pub enum Closing {
@@ -84,14 +86,14 @@ fn lower(
     parent: &[u16],
     label: &[u8],
     v: usize,
-    word: &mut [u8; 1024],
+    word: &mut [u8; Book::BODY],
     matched: &[u8],
     x: u8,
     best: Best,
 ) -> Best
     requires way { ⌜ Spells (now parent) (now label) v ⌝ }
-    requires buffer { ⌜ length (now word) ≡ 1024 ⌝ }
-    ensures word { λ r. ⌜ length (now (word .exit)) ≡ 1024 ⌝ }
+    requires buffer { ⌜ length (now word) ≡ maxBody ⌝ }
+    ensures word { λ r. ⌜ length (now (word .exit)) ≡ maxBody ⌝ }
     ensures least { λ r. let w = ending (paths (now (parent .entry)) (now (label .entry))) v in
         let u = now (matched .entry) in
         ⌜ (r .node ≡ least (nodeTest u w) 1 (best .node - 1)) × (r .byte ≡ least (byteTest (length u) x w) 1 (best .byte - 1)) ⌝ }
@@ -121,7 +123,7 @@ fn all_least(
         let u = now (matched .entry) in
         ⌜ (r .node ≡ leastOf (nodeTest u) w (none .node)) × (r .byte ≡ leastOf (byteTest (length u) x) w (none .byte)) ⌝ }
 {
-    let mut word = [0u8; 1024];
+    let mut word = [0u8; Book::BODY];
     let mut best = none;
     let mut v = 0;
     while v < count {
@@ -161,7 +163,7 @@ pub fn shift(
     ensures { λ r. let t = tables (now (parent .entry)) (now (label .entry)) (now (token .entry)) [] [] in
         ⌜ r ≡ shiftOf (words t count) shortest (ending t node) (closingOf closing) ⌝ }
 {
-    let mut word = [0u8; 1024];
+    let mut word = [0u8; Book::BODY];
     let d = spell::spell(parent, label, node, &mut word);
     let matched = &word[..d];
     match closing {

@@ -4,9 +4,11 @@ ghost use Prim.Native.Nat.{_+_, _-_, _≤_, _<_};
 ghost use mathlib.Core.Path.{_≡_};
 ghost use mathlib.Core.List.{[]};
 ghost use lib.ListN.{length};
+ghost use Rattle.book.specs.Book.{maxBody};
 ghost use Rattle.tables.specs.Tables.{over};
 ghost use Rattle.tables.specs.Walks.{ending, depth, lifted};
 ghost use Rattle.scan.specs.Ways.{paths, Climbs, Spells, Along, Run};
+use book::Book;
 use trie::entries::wide;
 
 // How far an ending is written: up to index n, and what is left is the ending of `at`.
@@ -17,9 +19,15 @@ pub struct Spot {
 
 // Writes on from index n, up to the first node whose parent is not the node before it. By counting, since a turn that went where a
 // parent says would wait for it to be read; two nodes a turn.
-fn spell_run(parent: &[u16], label: &[u8], node: usize, n: usize, into: &mut [u8; 1024]) -> Spot
+fn spell_run(
+    parent: &[u16],
+    label: &[u8],
+    node: usize,
+    n: usize,
+    into: &mut [u8; Book::BODY],
+) -> Spot
     requires way { ⌜ Spells (now parent) (now label) node × (0 < node) ⌝ }
-    requires room { ⌜ n + depth (paths (now parent) (now label)) node ≤ 1024 ⌝ }
+    requires room { ⌜ n + depth (paths (now parent) (now label)) node ≤ maxBody ⌝ }
     ensures { λ r. ⌜ Along (now (parent .entry)) (now (label .entry)) node n (now (into .entry)) (r .at) (r .n) (now (into .exit)) ⌝ }
 {
     let mut at = node;
@@ -43,9 +51,9 @@ fn spell_run(parent: &[u16], label: &[u8], node: usize, n: usize, into: &mut [u8
 }
 
 // Writes the ending of `node` from index 0 on, and answers its length; the bytes behind it stay.
-pub fn spell(parent: &[u16], label: &[u8], node: usize, into: &mut [u8; 1024]) -> usize
+pub fn spell(parent: &[u16], label: &[u8], node: usize, into: &mut [u8; Book::BODY]) -> usize
     requires way { ⌜ Spells (now parent) (now label) node ⌝ }
-    requires room { ⌜ length (now into) ≡ 1024 ⌝ }
+    requires room { ⌜ length (now into) ≡ maxBody ⌝ }
     ensures length { λ r. ⌜ r ≡ depth (paths (now (parent .entry)) (now (label .entry))) node ⌝ }
     ensures bytes { λ r. ⌜ now (into .exit) ≡ over (ending (paths (now (parent .entry)) (now (label .entry))) node) (now (into .entry)) ⌝ }
 {

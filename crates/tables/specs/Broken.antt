@@ -1,10 +1,11 @@
 -- Refusal 9: tables that are no tree, and the first node that breaks them.
+use Prim.{Unit, tt}
 use Prim.Native.Nat.{ℕ, zero, suc, _+_}
 use mathlib.Core.Bool.{Bool, true, false, _&&_, _||_}
 use mathlib.Core.Option.{Option, some, none}
 use lib.Dec.{leb, ltb, eqb}
 use lib.ListN.{getD}
-use Rattle.book.specs.Book.{maxTokens, maxBody}
+use Rattle.book.specs.Book.{Verdict, accepted, refused, maxTokens, maxBody}
 use Rattle.tables.specs.Tables.{Tables, shortestTable}
 use Rattle.tables.specs.Walks.{depth}
 
@@ -44,3 +45,8 @@ firstBreak t count (suc fuel) v = elim (sound t count v) [ true ↦ firstBreak t
 -- Refusal 9's value, if it comes: the shortest table's length where it is below the count, else the first node that breaks.
 abbrev pub broken : Tables → ℕ → Option ℕ
 broken t count = elim (ltb (shortestTable t) count) [ true ↦ some (shortestTable t) | false ↦ firstBreak t count count 0 ]
+
+-- The test as an answer: refusal 9 with its value, if it comes.
+abbrev pub tested : Option ℕ → Verdict Unit
+tested none = accepted tt
+tested (some v) = refused 9 v

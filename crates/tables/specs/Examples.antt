@@ -1,5 +1,6 @@
 -- Samples: the tables of four tokens, building into longer and into too short tables, and damaged tables with the first node that
 -- breaks them.
+use Prim.{tt}
 use Prim.Native.Nat.{ℕ}
 use mathlib.Core.Path.{_≡_, refl}
 use mathlib.Core.Bool.{Bool, true, false, _&&_}
@@ -9,7 +10,7 @@ use lib.Dec.{eqb}
 use lib.ListN.{replicate, set, take}
 use Rattle.book.specs.Book.{accepted, refused}
 use Rattle.tables.specs.Tables.{Tables, built, build}
-use Rattle.tables.specs.Broken.{broken}
+use Rattle.tables.specs.Broken.{broken, tested}
 
 -- "ab", "b", "cb", "ba": the nodes are "", "b", "ab", "cb", "a", "ba"
 abbrev four : Tables
@@ -124,3 +125,10 @@ allRight (d ∷ ds) = sameNode (broken (d .tables) (d .count)) (d .breaks) && al
 samples-right : allRight samples ≡ true
 unfolding samples row changed put strayed allRight sameNode
 samples-right = refl
+
+-- The same as answers: the node with the first child beyond the count is refusal 9's value.
+refused-nine : tested (broken four 5) ≡ refused 9 4
+refused-nine = refl
+
+accepted-tree : tested (broken four 6) ≡ accepted tt
+accepted-tree = refl

@@ -1,4 +1,5 @@
 -- What the calls answer, as the definitions have it: lent lists as tables, a child, a test, a building.
+use Prim.{Unit, tt}
 use Prim.Native.Nat.{ℕ}
 use mathlib.Core.Bool.{Bool, _&&_}
 use mathlib.Core.List.{List}
@@ -24,9 +25,9 @@ abbrev pub childOf : Child → Option ℕ
 childOf (At v) = some v
 childOf Absent = none
 
-abbrev pub testedOf : Tested → Option ℕ
-testedOf Sound = none
-testedOf (Breaks v) = some v
+abbrev pub testedOf : Tested → Verdict Unit
+testedOf Sound = accepted tt
+testedOf (Breaks v) = refused 9 v
 
 -- the tests of node v, which is not the root, but those of its parent and its depth
 abbrev pub ownSound : Tables → ℕ → ℕ → Bool

@@ -3,7 +3,7 @@ ghost use mathlib.Core.Path.{_≡_};
 ghost use mathlib.Core.List.{[]};
 ghost use Prim.Native.Nat.{_-_, _≤_, _<_};
 ghost use lib.ListN.{length};
-ghost use Rattle.tables.specs.Broken.{linked, sound, firstBreak, broken};
+ghost use Rattle.tables.specs.Broken.{linked, sound, firstBreak, broken, tested};
 ghost use Rattle.trie.specs.Answers.{tables, testedOf, ownSound};
 ghost use Rattle.trie.specs.InPlace.{Room};
 ghost use Rattle.tables.specs.Laws.Shape.{up};
@@ -131,8 +131,8 @@ fn later_break(parent: &[u16], token: &[u16], first: &[u16], next: &[u16], count
         × (0 < count) × (up (tables (now parent) [] (now token) (now first) (now next)) 0 ≡ 0)
         ⌝ }
     ensures { λ r. ⌜
-        testedOf r ≡ firstBreak
-        (tables (now (parent .entry)) [] (now (token .entry)) (now (first .entry)) (now (next .entry))) count (count - 1) 1
+        testedOf r ≡ tested (firstBreak
+        (tables (now (parent .entry)) [] (now (token .entry)) (now (first .entry)) (now (next .entry))) count (count - 1) 1)
         ⌝ }
 {
     let mut node = 1;
@@ -168,8 +168,8 @@ pub fn first_break(
     count: usize,
 ) -> Tested
     ensures { λ r. ⌜
-        testedOf r ≡ broken
-        (tables (now (parent .entry)) (now (label .entry)) (now (token .entry)) (now (first .entry)) (now (next .entry))) count
+        testedOf r ≡ tested (broken
+        (tables (now (parent .entry)) (now (label .entry)) (now (token .entry)) (now (first .entry)) (now (next .entry))) count)
         ⌝ }
 {
     let least = shortest(parent, label, token, first, next);

@@ -10,8 +10,10 @@ mod insert;
 
 pub use breaks::first_break;
 ghost use mathlib.Core.Path.{_≡_};
+ghost use Rattle.book.specs.Book.{refusalIn};
 ghost use Rattle.tables.specs.Tables.{build};
-ghost use Rattle.trie.specs.Answers.{tables, answerOf};
+ghost use Rattle.trie.specs.Answers.{tables, testedOf, answerOf};
+use book::Numbered;
 use book::Reading;
 use book::Refusal;
 use entries::shortest;
@@ -29,6 +31,17 @@ pub enum Tested {
     Breaks(usize),
 }
 
+impl Tested {
+    pub fn numbered(self) -> Numbered
+        ensures { λ r. ⌜ (r .number ≡ refusalIn (testedOf self) .0) × (r .value ≡ refusalIn (testedOf self) .1) ⌝ }
+    {
+        match self {
+            Tested::Sound => Numbered::none(),
+            Tested::Breaks(node) => Numbered::row(9, node),
+        }
+    }
+}
+
 // The number of nodes, S and D.
 pub struct Sizes {
     pub nodes: usize,
@@ -41,6 +54,18 @@ pub enum Building {
     Made(Sizes),
     Unread(Refusal),
     TooShort(usize),
+}
+
+impl Building {
+    pub fn numbered(self) -> Numbered
+        ensures { λ r. ⌜ (r .number ≡ refusalIn (answerOf self) .0) × (r .value ≡ refusalIn (answerOf self) .1) ⌝ }
+    {
+        match self {
+            Building::Made(_) => Numbered::none(),
+            Building::Unread(why) => why.numbered(),
+            Building::TooShort(room) => Numbered::row(7, room),
+        }
+    }
 }
 
 // The tables of a book, written from the front; what follows the last node stays, and on a refusal all of it.

@@ -1,24 +1,33 @@
 -- `numbers` meets its contract, answer by answer.
+use Prim.Native.Nat.{ℕ}
+use native.Mathlib.Omega.{arith}
+use mathlib.Core.Path.{_≡_, refl}
+use mathlib.Core.List.{[], _∷_}
+use mathlib.Core.Logic.{⊎-elim}
 use borrow.Author.Needs.{needs}
+use denote.Enum.Declared.{tagOf}
+use types.Run.{OneOf}
+use Rattle.book.specs.Book.{refused, refusalIn}
+use Rattle.trie.proofs.Building.{the-type}
+use Rattle.trie.specs.Answers.{answerOf}
+use Rattle.trie.specs.declared.Building.{Building}
+use Rattle.trie.specs.declared.Building.the-variants.{Made, Unread, TooShort}
+use Rattle.gateway.specs.Numbers.{builtOf}
 use Rattle.gateway.proofs.numbers.Statement.{statement}
 use Rattle.gateway.proofs.numbers.Tie as tie
 
--- a refused book: its number and value are those of `number_of`
-returns-2 : tie.Need-returns-2
-returns-2 c =
-    let told = c .before .number-of .ensures in
-    rw (c .before .before .before .made2 .given .1, ← told .0, ← told .1) (c .not-built .ensures)
+-- What is refused has its number and value, and zeros.
+unbuilt : (b : Building) → OneOf (1 ∷ 2 ∷ []) (tagOf the-type b) → (k v : ℕ)
+    → (k ≡ refusalIn (answerOf b) .0) × (v ≡ refusalIn (answerOf b) .1) → builtOf (refused k v) ≡ builtOf (answerOf b)
+unbuilt (Made s) other k v e = absurd (⊎-elim (λ e. omega (arith, e)) (λ e. omega (arith, e)) other)
+unbuilt (Unread why) other k v e = rw (e .0, e .1) refl
+unbuilt (TooShort room) other k v e = rw (e .0, e .1) refl
 
 pub numbers-spec : {M : Type 1} → statement M
 numbers-spec =
     tie.close
     (tie.spec
-    (λ c. search needs)
-    (λ c. search needs)
-    (λ c κs. search needs)
     (λ c κs. search needs)
     (λ c. search needs)
-    (λ c κs. search needs)
     (λ c. rw (c .before .made .given .1))
-    returns-2
-    (λ c. rw (c .before .before .made3 .given .1) (c .not-built2 .ensures)))
+    (λ c. unbuilt (c .before .before .args .made) (c .match .keys2) _ _ (c .before .numbered .ensures)))

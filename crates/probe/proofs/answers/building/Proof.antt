@@ -7,10 +7,10 @@ returns : tie.Need-returns
 returns c = rw (c .before .before .answer .given .1) (c .tell .ensures)
 
 returns-2 : tie.Need-returns-2
-returns-2 c = rw (c .before .before .answer2 .given .1) (c .unread .ensures)
+returns-2 c = rw (c .refused .ensures, c .before .numbered .ensures .0, c .before .numbered .ensures .1, c .before .before .enum-told .given .1)
 
 returns-3 : tie.Need-returns-3
-returns-3 c = rw (c .before .before .answer3 .given .1) (c .refused .ensures)
+returns-3 c = rw (c .refused2 .ensures, c .before .numbered2 .ensures .0, c .before .numbered2 .ensures .1, c .before .before .enum-told2 .given .1)
 
 pub building-spec : {M : Type 1} → statement M
 building-spec =
@@ -20,7 +20,9 @@ building-spec =
     (λ c κs. search needs)
     (λ c. search needs)
     (λ c κs. search needs)
+    (λ c κs. search needs)
     (λ c. search needs)
+    (λ c κs. search needs)
     (λ c κs. search needs)
     returns
     returns-2

@@ -11,5 +11,6 @@ opening-spec =
     (λ c κs. search needs)
     (λ c. search needs)
     (λ c κs. search needs)
+    (λ c κs. search needs)
     (λ c s. rw (c .before .enum-told .given .1) (c .tell .ensures))
-    (λ c s. rw (c .before .before .answer .given .1) (c .refused .ensures)))
+    (λ c s. rw (c .refused .ensures, c .before .numbered .ensures s .0, c .before .numbered .ensures s .1, c .before .before .enum-told2 .given .1)))

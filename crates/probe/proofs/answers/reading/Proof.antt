@@ -7,7 +7,7 @@ returns : tie.Need-returns
 returns c = rw (c .before .before .answer .given .1) (c .tell .ensures)
 
 returns-2 : tie.Need-returns-2
-returns-2 c = rw (c .before .before .answer2 .given .1) (c .unread .ensures)
+returns-2 c = rw (c .refused .ensures, c .before .numbered .ensures .0, c .before .numbered .ensures .1, c .before .before .before .answer2 .given .1)
 
 pub reading-spec : {M : Type 1} → statement M
 reading-spec =
@@ -16,6 +16,7 @@ reading-spec =
     (λ c. search needs)
     (λ c κs. search needs)
     (λ c. search needs)
+    (λ c κs. search needs)
     (λ c κs. search needs)
     returns
     returns-2)

@@ -11,5 +11,6 @@ tested-spec =
     (λ c κs. search needs)
     (λ c. search needs)
     (λ c κs. search needs)
+    (λ c κs. search needs)
     (λ c. rw (c .before .enum-told .given .1) (c .tell .ensures))
-    (λ c. rw (c .before .before .answer .given .1) (c .refused .ensures)))
+    (λ c. rw (c .refused .ensures, c .before .numbered .ensures .0, c .before .numbered .ensures .1, c .before .before .enum-told2 .given .1)))

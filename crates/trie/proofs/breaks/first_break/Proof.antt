@@ -6,7 +6,7 @@ use mathlib.Core.Bool.{true}
 use borrow.Author.Tests.{not-true, not-false}
 use borrow.Author.Needs.{needs}
 use Rattle.tables.specs.Tables.{Tables}
-use Rattle.tables.specs.Broken.{sound, firstBreak, broken}
+use Rattle.tables.specs.Broken.{sound, firstBreak, broken, tested}
 use Rattle.trie.specs.Answers.{tables}
 use Rattle.trie.specs.Laws.Testing.{short-breaks, long-enough, root-breaks, root-passes, root-up, break-bare}
 use Rattle.trie.proofs.breaks.first_break.Statement.{statement}
@@ -29,16 +29,16 @@ root c = sym (c .before .root-sound .ensures) ∙ not-false (c .before .root-sou
 
 returns : tie.Need-returns
 returns c = let s = start (c .before) in
-    sym (short-breaks (lent s) (s .args .count) (c .before .shortest .result) (c .before .shortest .ensures) (c .if1 .taken))
+    ap tested (sym (short-breaks (lent s) (s .args .count) (c .before .shortest .result) (c .before .shortest .ensures) (c .if1 .taken)))
 
 returns-2 : tie.Need-returns-2
 returns-2 c = let s = start (c .before .before) in
-    sym (whole (c .before) ∙ ap (λ k. firstBreak (lent s) k k 0) (c .if2 .taken))
+    ap tested (sym (whole (c .before) ∙ ap (λ k. firstBreak (lent s) k k 0) (c .if2 .taken)))
 
 returns-3 : tie.Need-returns-3
 returns-3 c = let s = start (c .before .before .before .before) in
-    sym (whole (c .before .before .before) ∙ root-breaks (lent s) (s .args .count) (omega (arith, c .before .before .if2 .left))
-    (sym (c .before .root-sound .ensures) ∙ not-true (c .before .root-sound .result) (c .if3 .taken)))
+    ap tested (sym (whole (c .before .before .before) ∙ root-breaks (lent s) (s .args .count) (omega (arith, c .before .before .if2 .left))
+    (sym (c .before .root-sound .ensures) ∙ not-true (c .before .root-sound .result) (c .if3 .taken))))
 
 later-break-requires : tie.Need-later-break-requires
 later-break-requires c κs = let s = start (c .before .before .before .before) in
@@ -46,9 +46,9 @@ later-break-requires c κs = let s = start (c .before .before .before .before) i
 
 returns-4 : tie.Need-returns-4
 returns-4 c = let s = start (c .before .before .before .before .before) in
-    c .later-break .ensures ∙ sym (whole (c .before .before .before .before)
+    c .later-break .ensures ∙ ap tested (sym (whole (c .before .before .before .before)
     ∙ root-passes (lent s) (s .args .count) (omega (arith, c .before .before .before .if2 .left)) (root (c .before))
-    ∙ break-bare (s .args .parent .now) (s .args .label .now) (s .args .token .now) (s .args .first .now) (s .args .next .now) (s .args .count) (s .args .count - 1) 1 (omega arith))
+    ∙ break-bare (s .args .parent .now) (s .args .label .now) (s .args .token .now) (s .args .first .now) (s .args .next .now) (s .args .count) (s .args .count - 1) 1 (omega arith)))
 
 pub first-break-spec : {M : Type 1} → statement M
 first-break-spec =

@@ -3,12 +3,13 @@
 use Prim.Native.Nat.{ℕ, _+_, _-_, _≤_, _<_, min}
 use native.Mathlib.Nat.{min-le-left, min-le-right, le-min}
 use native.Mathlib.Omega.{arith}
-use mathlib.Core.Path.{_≡_, sym, _∙_}
+use mathlib.Core.Path.{_≡_, ap, sym, _∙_}
 use mathlib.Core.List.{[]}
 use borrow.Author.Tests.{not-true, not-false}
 use borrow.Author.Needs.{needs}
 use Rattle.tables.specs.Tables.{Tables}
 use Rattle.tables.specs.Walks.{depth}
+use Rattle.tables.specs.Broken.{tested}
 use Rattle.trie.specs.Answers.{tables}
 use Rattle.tables.specs.Laws.Shape.{up}
 use Rattle.trie.specs.Laws.Testing.{Passing, Standing, begins, done, high-breaks, falls-on, deep-breaks, stands, stands-end, own-breaks, again, depth-bare, falling-bare}
@@ -62,7 +63,7 @@ end c = let a = at (c .before .before .before .before) in
 
 returns : tie.Need-returns Inv-loop μ-loop
 returns c = let a = c .before .before .before .before in
-    sym (high-breaks (lent (start a)) (start a .args .count) (a .loop .node) (a .loop .depth) (a .loop .inv) (c .before .before .before .loop-test .taken) (omega (arith, c .before .wide .ensures, c .if1 .taken)))
+    ap tested (sym (high-breaks (lent (start a)) (start a .args .count) (a .loop .node) (a .loop .depth) (a .loop .inv) (c .before .before .before .loop-test .taken) (omega (arith, c .before .wide .ensures, c .if1 .taken))))
 
 loop-holds : tie.Need-loop-holds Inv-loop μ-loop
 loop-holds c = let s = c .before .before .before .before in begins (lent s) (s .args .count) (s .pre .1) (s .pre .2)
@@ -79,7 +80,7 @@ depth-at-requires c κs = let a = at c in
 
 returns-2 : tie.Need-returns-2 Inv-loop μ-loop
 returns-2 c = let a = at (c .before .before) in
-    sym (deep-breaks (lent (start a)) (start a .args .count) (a .loop .node) (a .loop .depth) (a .loop .inv) (c .before .before .before .before .before .loop-test .taken) (low (c .before .before)) (c .before .depth-at .result) (deep (c .before)) (c .if2 .taken))
+    ap tested (sym (deep-breaks (lent (start a)) (start a .args .count) (a .loop .node) (a .loop .depth) (a .loop .inv) (c .before .before .before .before .before .loop-test .taken) (low (c .before .before)) (c .before .depth-at .result) (deep (c .before)) (c .if2 .taken)))
 
 chain-end-requires : tie.Need-chain-end-requires Inv-loop μ-loop
 chain-end-requires c κs = (start (at (c .before .before .before)) .pre .0, below c .0, below c .1)
@@ -90,7 +91,7 @@ own-sound-requires c κs = (start (at (c .before .before .before .before)) .pre 
 returns-3 : tie.Need-returns-3 Inv-loop μ-loop
 returns-3 c = let b = c .before .before in
     let a = at (b .before .before .before .before) in
-    sym (own-breaks (lent (start a)) (start a .args .count) (b .chain-end .result) _ (end b) (sym (c .before .own-sound .ensures) ∙ not-true (c .before .own-sound .result) (c .if3 .taken)))
+    ap tested (sym (own-breaks (lent (start a)) (start a .args .count) (b .chain-end .result) _ (end b) (sym (c .before .own-sound .ensures) ∙ not-true (c .before .own-sound .result) (c .if3 .taken))))
 
 loop-again : tie.Need-loop-again Inv-loop μ-loop
 loop-again c = let b = c .before .before in
@@ -99,7 +100,7 @@ loop-again c = let b = c .before .before in
 
 returns-4 : tie.Need-returns-4 Inv-loop μ-loop
 returns-4 c = let a = c .before in
-    sym (done (lent (start a)) (start a .args .count) (a .loop .node) (a .loop .depth) (a .loop .inv) (c .loop-test .left))
+    ap tested (sym (done (lent (start a)) (start a .args .count) (a .loop .node) (a .loop .depth) (a .loop .inv) (c .loop-test .left)))
 
 pub later-break-spec : {M : Type 1} → statement M
 later-break-spec =
