@@ -10,6 +10,7 @@ use lib.Dec.{eqb}
 use lib.ListN.{replicate, set, take}
 use Rattle.book.specs.Book.{accepted, refused}
 use Rattle.tables.specs.Tables.{Tables, built, build}
+use Rattle.tables.specs.Walks.{childBy}
 use Rattle.tables.specs.Broken.{broken, tested}
 
 -- "ab", "b", "cb", "ba": the nodes are "", "b", "ab", "cb", "a", "ba"
@@ -25,6 +26,10 @@ four = record {
 four-built : built ((97 ∷ 98 ∷ []) ∷ (98 ∷ []) ∷ (99 ∷ 98 ∷ []) ∷ (98 ∷ 97 ∷ []) ∷ []) ≡ four
 unfolding built
 four-built = refl
+
+-- Children: the root's first and second, one that is not there, and one that the walk does not come to over a single node.
+children : childBy four 6 0 98 ∷ childBy four 6 0 97 ∷ childBy four 6 0 99 ∷ childBy four 1 0 97 ∷ [] ≡ some 1 ∷ some 4 ∷ none ∷ none ∷ []
+children = refl
 
 -- The book of "ba" and "a" asks for four entries and makes three nodes: what follows the last one stays.
 abbrev book : List ℕ

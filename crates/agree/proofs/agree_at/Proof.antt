@@ -2,7 +2,7 @@
 use native.Mathlib.Omega.{arith}
 use mathlib.Core.Path.{sym}
 use borrow.Author.Needs.{needs}
-use Rattle.agree.proofs.Agree.{agrees-past, agrees-over}
+use Rattle.agree.proofs.Laws.Agree.{agrees-past, agrees-over}
 use Rattle.agree.proofs.agree_at.Statement.{statement}
 use Rattle.agree.proofs.agree_at.Tie as tie
 

@@ -5,7 +5,7 @@ use mathlib.Core.Path.{sym}
 use borrow.Author.Needs.{needs}
 use borrow.Author.Tests.{not-true, not-false}
 use lib.ListN.{length}
-use Rattle.agree.proofs.Agree.{Agreed, test-true, test-false, agreed-more}
+use Rattle.agree.proofs.Laws.Agree.{Agreed, test-true, test-false, agreed-more}
 use Rattle.agree.proofs.all_agree.Statement.{statement}
 use Rattle.agree.proofs.all_agree.Tie as tie
 

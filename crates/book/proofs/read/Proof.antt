@@ -6,7 +6,7 @@ use mathlib.Core.List.{List}
 use mathlib.Core.Path.{_∙_}
 use lib.ListN.{length}
 use Rattle.book.specs.Laws.Taken.{Opened, opened-range}
-use Rattle.book.proofs.ReadLoop.{Walk, begins, room, missing, unknown, closes, short, beyond, twice, onwards}
+use Rattle.book.proofs.Laws.Read.{Walk, begins, room, missing, unknown, closes, short, beyond, twice, onwards}
 use Rattle.book.proofs.read.Statement.{statement}
 use Rattle.book.proofs.read.Tie as tie
 

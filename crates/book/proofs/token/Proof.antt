@@ -5,7 +5,7 @@ use native.Mathlib.Omega.{arith}
 use mathlib.Core.Path.{ap, sym, _∙_}
 use Rattle.book.specs.Book.{readBook}
 use Rattle.book.specs.Answers.{verdictOf}
-use Rattle.book.proofs.TokenLoop.{Has, Reach, unread-is, has, none, beyond, inside, next, there}
+use Rattle.book.proofs.Laws.Token.{Has, Reach, unread-is, has, none, beyond, inside, next, there}
 use Rattle.book.proofs.token.Statement.{statement}
 use Rattle.book.proofs.token.Tie as tie
 

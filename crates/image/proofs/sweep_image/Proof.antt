@@ -8,7 +8,7 @@ use Rattle.book.specs.Answers.{refusalOf}
 use Rattle.tables.specs.Tables.{Tables, Sizes}
 use Rattle.trie.specs.Answers.{tables, answerOf}
 use Rattle.image.specs.Results.{sweptOf, fetchedOf}
-use Rattle.image.proofs.SweepImage.{Built, answer-long, answer-refused, is-built, built-given, answer-built}
+use Rattle.image.proofs.Laws.SweepImage.{Built, answer-long, answer-refused, is-built, built-given, answer-built}
 use Rattle.image.proofs.sweep_image.Statement.{statement}
 use Rattle.image.proofs.sweep_image.Tie as tie
 

@@ -3,7 +3,7 @@ use mathlib.Core.Path.{ap, sym, _∙_}
 use Rattle.trie.specs.Answers.{tables}
 use Rattle.scan.specs.Calls.{carryOn}
 use Rattle.probe.specs.States.{handed}
-use Rattle.probe.proofs.StatesLent.{room, on, off}
+use Rattle.probe.proofs.Laws.States.{room, on, off}
 use borrow.Author.Needs.{needs}
 use Rattle.probe.proofs.probe_carry_on.Statement.{statement}
 use Rattle.probe.proofs.probe_carry_on.Tie as tie

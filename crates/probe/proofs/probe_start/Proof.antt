@@ -1,7 +1,7 @@
 -- The equations of starting and of laying the state, joined.
 use mathlib.Core.Path.{ap, sym, _∙_}
 use Rattle.scan.specs.Start.{start}
-use Rattle.probe.proofs.StatesLent.{startedIn, started, unstarted}
+use Rattle.probe.proofs.Laws.States.{startedIn, started, unstarted}
 use borrow.Author.Needs.{needs}
 use Rattle.probe.proofs.probe_start.Statement.{statement}
 use Rattle.probe.proofs.probe_start.Tie as tie

@@ -2,7 +2,7 @@
 use mathlib.Core.Path.{_∙_}
 use borrow.Author.Needs.{needs}
 use Rattle.agree.specs.Tests.{byteTest}
-use Rattle.image.proofs.CachesEntries.{least-fits, by-byte-set}
+use Rattle.image.proofs.Laws.Caches.{least-fits, by-byte-set}
 use Rattle.image.proofs.caches.byte_shift.Statement.{statement}
 use Rattle.image.proofs.caches.byte_shift.Tie as tie
 

@@ -5,7 +5,7 @@ use lib.ListN.{length-set}
 use Rattle.rules.specs.Tokens.{nodeShift}
 use Rattle.agree.specs.Tests.{nodeTest}
 use Rattle.image.specs.Rule5.{tokensOf}
-use Rattle.image.proofs.CachesEntries.{least-fits, by-node-set}
+use Rattle.image.proofs.Laws.Caches.{least-fits, by-node-set}
 use Rattle.image.proofs.caches.node_shift.Statement.{statement}
 use Rattle.image.proofs.caches.node_shift.Tie as tie
 

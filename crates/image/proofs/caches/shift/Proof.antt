@@ -2,7 +2,7 @@
 use mathlib.Core.Path.{ap}
 use borrow.Author.Needs.{needs}
 use Rattle.image.specs.Rule5.{tokensOf, closingOf}
-use Rattle.image.proofs.CachesEntries.{shift-nothing, shift-byte}
+use Rattle.image.proofs.Laws.Caches.{shift-nothing, shift-byte}
 use Rattle.image.proofs.caches.shift.Statement.{statement}
 use Rattle.image.proofs.caches.shift.Tie as tie
 

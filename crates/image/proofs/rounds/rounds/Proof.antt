@@ -6,9 +6,9 @@ use mathlib.Core.Logic.{⊎-elim}
 use borrow.Author.Needs.{needs}
 use lib.ListN.{length}
 use Rattle.image.specs.Sweeping.{Standing}
-use Rattle.image.proofs.TurnEnd.{Turned, ended-numbers, ended-fits, ended-few, ended-loose, turned, turned-bare, turned-as}
-use Rattle.image.proofs.TurnAttempt.{round-goes}
-use Rattle.image.proofs.RoundsLoop.{Rounding, rounding-begins, ends-long, tokens-long, known, rounding-small, rounding-skimmable, rounding-skims, rounding-begun, rounding-again, rounding-done}
+use Rattle.image.proofs.Laws.Turn.{Turned, ended-numbers, ended-fits, ended-few, ended-loose, turned, turned-bare, turned-as}
+use Rattle.image.proofs.Laws.TurnAttempt.{round-goes}
+use Rattle.image.proofs.Laws.Rounds.{Rounding, rounding-begins, ends-long, tokens-long, known, rounding-small, rounding-skimmable, rounding-skims, rounding-begun, rounding-again, rounding-done}
 use Rattle.image.proofs.rounds.rounds.Statement.{statement}
 use Rattle.image.proofs.rounds.rounds.Tie as tie
 

@@ -1,6 +1,6 @@
 -- `sweep` meets its contract: the tables can be walked, and empty caches are right.
 use borrow.Author.Needs.{needs}
-use Rattle.image.proofs.RoundsSweep.{given-narrow, no-shifts}
+use Rattle.image.proofs.Laws.RoundsSweep.{given-narrow, no-shifts}
 use Rattle.image.proofs.rounds.sweep.Statement.{statement}
 use Rattle.image.proofs.rounds.sweep.Tie as tie
 

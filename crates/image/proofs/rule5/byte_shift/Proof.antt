@@ -5,7 +5,7 @@ use borrow.Author.Needs.{needs}
 use lib.ListN.{length}
 use Rattle.agree.specs.Tests.{byteTest}
 use Rattle.book.specs.Laws.Taken.{whole-inside}
-use Rattle.image.proofs.Rule5Tokens.{Passed, passed-none, passed-more, passed-all}
+use Rattle.image.proofs.Laws.Rule5.{Passed, passed-none, passed-more, passed-all}
 use Rattle.image.proofs.rule5.byte_shift.Statement.{statement}
 use Rattle.image.proofs.rule5.byte_shift.Tie as tie
 

@@ -2,7 +2,7 @@
 use native.Mathlib.Omega.{arith}
 use mathlib.Core.Path.{sym, subst}
 use Rattle.image.specs.Sweeping.{Skimmable, Skimmed}
-use Rattle.image.proofs.SkimRounds.{lead-none}
+use Rattle.image.proofs.Laws.Skim.{lead-none}
 use Rattle.image.proofs.skim.ahead.Statement.{statement}
 use Rattle.image.proofs.skim.ahead.Tie as tie
 

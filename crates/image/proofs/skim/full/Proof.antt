@@ -6,7 +6,7 @@ use mathlib.Core.Bool.{false}
 use borrow.Author.Needs.{needs}
 use borrow.Author.Tests.{eqb-true}
 use Rattle.rules.specs.Laws.Tests.{clash}
-use Rattle.image.proofs.SkimRounds.{cached-is}
+use Rattle.image.proofs.Laws.Skim.{cached-is}
 use Rattle.image.proofs.skim.full.Statement.{statement}
 use Rattle.image.proofs.skim.full.Tie as tie
 

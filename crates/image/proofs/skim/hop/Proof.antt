@@ -2,7 +2,7 @@
 use Prim.Native.Nat.{_+_}
 use native.Mathlib.Omega.{arith}
 use mathlib.Core.Path.{refl}
-use Rattle.image.proofs.SkimRounds.{Skimming, lead-none, lead-on, lead-one, lead-two, skimming, skimmable-on}
+use Rattle.image.proofs.Laws.Skim.{Skimming, lead-none, lead-on, lead-one, lead-two, skimming, skimmable-on}
 use Rattle.image.proofs.skim.hop.Statement.{statement}
 use Rattle.image.proofs.skim.hop.Tie as tie
 

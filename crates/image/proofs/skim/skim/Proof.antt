@@ -2,7 +2,7 @@
 use Prim.Native.Nat.{_+_, _-_}
 use native.Mathlib.Omega.{arith}
 use lib.ListN.{length}
-use Rattle.image.proofs.SkimRounds.{Skimming, lead-on, skimming, skimming-begins, skimming-done, skimmable-on}
+use Rattle.image.proofs.Laws.Skim.{Skimming, lead-on, skimming, skimming-begins, skimming-done, skimmable-on}
 use Rattle.image.proofs.skim.skim.Statement.{statement}
 use Rattle.image.proofs.skim.skim.Tie as tie
 

@@ -2,7 +2,7 @@
 use Prim.Native.Nat.{_+_, _-_}
 use native.Mathlib.Omega.{arith}
 use lib.ListN.{length}
-use Rattle.image.proofs.SkimRounds.{Skimming, lead-on, lead-four, skimming, skimming-begins, skimming-done, short-some, cached-upto}
+use Rattle.image.proofs.Laws.Skim.{Skimming, lead-on, lead-four, skimming, skimming-begins, skimming-done, short-some, cached-upto}
 use Rattle.image.proofs.skim.stride.Statement.{statement}
 use Rattle.image.proofs.skim.stride.Tie as tie
 

@@ -10,7 +10,7 @@ use lib.Dec.{ltb}
 use Rattle.rules.specs.Laws.Tests.{decide}
 use Rattle.rules.specs.Laws.Remember.{Edge, edge-begins, edge-done, edge-again}
 use Rattle.image.specs.Spans.{inUse}
-use Rattle.image.proofs.SpansUsed.{sized, spanAt, restFrom, more, past}
+use Rattle.image.proofs.Laws.Spans.{sized, spanAt, restFrom, more, past}
 use Rattle.image.proofs.spans.edge.Statement.{statement}
 use Rattle.image.proofs.spans.edge.Tie as tie
 

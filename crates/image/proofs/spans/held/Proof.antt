@@ -4,8 +4,8 @@ use native.Mathlib.Omega.{arith}
 use mathlib.Core.Path.{_≡_}
 use lib.ListN.{length}
 use borrow.Author.Needs.{needs}
-use Rattle.image.proofs.SpansUsed.{sized}
-use Rattle.image.proofs.SpansSift.{Sifting, sifting-begins, sifting-done, sifting-here, sifting-again}
+use Rattle.image.proofs.Laws.Spans.{sized}
+use Rattle.image.proofs.Laws.SpansSift.{Sifting, sifting-begins, sifting-done, sifting-here, sifting-again}
 use Rattle.image.proofs.spans.held.Statement.{statement}
 use Rattle.image.proofs.spans.held.Tie as tie
 

@@ -5,8 +5,8 @@ use mathlib.Core.Path.{_≡_}
 use mathlib.Core.Logic.{⊎-elim}
 use lib.ListN.{length}
 use borrow.Author.Needs.{needs}
-use Rattle.image.proofs.SpansUsed.{sized}
-use Rattle.image.proofs.SpansLoose.{Counting, counting-begins, counting-done, counting-here, counting-again}
+use Rattle.image.proofs.Laws.Spans.{sized}
+use Rattle.image.proofs.Laws.SpansLoose.{Counting, counting-begins, counting-done, counting-here, counting-again}
 use Rattle.image.proofs.spans.loose.Statement.{statement}
 use Rattle.image.proofs.spans.loose.Tie as tie
 

@@ -2,7 +2,7 @@
 use mathlib.Core.Path.{_≡_}
 use lib.ListN.{length}
 use borrow.Author.Needs.{needs}
-use Rattle.image.proofs.SpansUsed.{sized, one-more}
+use Rattle.image.proofs.Laws.Spans.{sized, one-more}
 use Rattle.image.proofs.spans.put.Statement.{statement}
 use Rattle.image.proofs.spans.put.Tie as tie
 

@@ -5,9 +5,9 @@ use lib.ListN.{length}
 use borrow.Author.Needs.{needs}
 use borrow.Author.Tests.{not-true, not-false}
 use Rattle.rules.specs.Laws.Remember.{new-lies}
-use Rattle.image.proofs.SpansUsed.{sized}
+use Rattle.image.proofs.Laws.Spans.{sized}
 use Rattle.image.specs.Spans.{inUse}
-use Rattle.image.proofs.SpansSift.{fits-later, ends-dropped, ends-put}
+use Rattle.image.proofs.Laws.SpansSift.{fits-later, ends-dropped, ends-put}
 use Rattle.image.proofs.spans.remember.Statement.{statement}
 use Rattle.image.proofs.spans.remember.Tie as tie
 

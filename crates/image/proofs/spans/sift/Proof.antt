@@ -3,7 +3,7 @@ use mathlib.Core.Path.{sym, _∙_}
 use borrow.Author.Needs.{needs}
 use borrow.Author.Tests.{not-true, not-false}
 use Rattle.image.specs.Spans.{placed}
-use Rattle.image.proofs.SpansSift.{sift-inside, sift-dropped, sift-put}
+use Rattle.image.proofs.Laws.SpansSift.{sift-inside, sift-dropped, sift-put}
 use Rattle.image.proofs.spans.sift.Statement.{statement}
 use Rattle.image.proofs.spans.sift.Tie as tie
 

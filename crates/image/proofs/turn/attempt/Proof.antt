@@ -3,8 +3,8 @@ use Prim.Native.Nat.{_≤_}
 use native.Mathlib.Omega.{arith}
 use mathlib.Core.Path.{refl, _∙_}
 use borrow.Author.Needs.{needs}
-use Rattle.image.proofs.TurnEnd.{Arrives, arrives-deep, arrives-named, by-near, learns, sees, ended}
-use Rattle.image.proofs.TurnAttempt.{begunAt, begun-known, tables-walk, round-place, round-arrives}
+use Rattle.image.proofs.Laws.Turn.{Arrives, arrives-deep, arrives-named, by-near, learns, sees, ended}
+use Rattle.image.proofs.Laws.TurnAttempt.{begunAt, begun-known, tables-walk, round-place, round-arrives}
 use Rattle.image.proofs.turn.attempt.Statement.{statement}
 use Rattle.image.proofs.turn.attempt.Tie as tie
 

@@ -2,7 +2,7 @@
 use mathlib.Core.Path.{ap}
 use borrow.Author.Needs.{needs}
 use Rattle.image.specs.Rule5.{closingOf}
-use Rattle.image.proofs.TurnEnd.{by-pair-set}
+use Rattle.image.proofs.Laws.Turn.{by-pair-set}
 use Rattle.image.proofs.turn.learn_pair.Statement.{statement}
 use Rattle.image.proofs.turn.learn_pair.Tie as tie
 

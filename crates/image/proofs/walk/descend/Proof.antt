@@ -8,9 +8,9 @@ use borrow.Author.Needs.{needs}
 use lib.Dec.{eqb}
 use lib.ListN.{getD}
 use Rattle.image.specs.Walk.{Walkable}
-use Rattle.image.proofs.WalkChildren.{child-below}
-use Rattle.image.proofs.WalkStep.{goes-on, stops-leaf, stops-edge}
-use Rattle.image.proofs.WalkDescend.{Descending, marked-still, marked-now, descend-none, descend-begins, descend-done, descend-shut, descend-again}
+use Rattle.image.proofs.Laws.WalkChildren.{child-below}
+use Rattle.image.proofs.Laws.Walk.{goes-on, stops-leaf, stops-edge}
+use Rattle.image.proofs.Laws.WalkDescend.{Descending, marked-still, marked-now, descend-none, descend-begins, descend-done, descend-shut, descend-again}
 use Rattle.image.proofs.walk.descend.Statement.{statement}
 use Rattle.image.proofs.walk.descend.Tie as tie
 

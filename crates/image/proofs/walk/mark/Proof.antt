@@ -8,9 +8,9 @@ use borrow.Author.Needs.{needs}
 use lib.Dec.{eqb}
 use lib.ListN.{getD}
 use Rattle.image.specs.Walk.{Walkable}
-use Rattle.image.proofs.WalkChildren.{child-below}
-use Rattle.image.proofs.WalkStep.{goes-on, stops-leaf, stops-edge}
-use Rattle.image.proofs.WalkMark.{Marking, marking-begins, marking-done, marking-shut, marking-past, marking-again}
+use Rattle.image.proofs.Laws.WalkChildren.{child-below}
+use Rattle.image.proofs.Laws.Walk.{goes-on, stops-leaf, stops-edge}
+use Rattle.image.proofs.Laws.WalkMark.{Marking, marking-begins, marking-done, marking-shut, marking-past, marking-again}
 use Rattle.image.proofs.walk.mark.Statement.{statement}
 use Rattle.image.proofs.walk.mark.Tie as tie
 

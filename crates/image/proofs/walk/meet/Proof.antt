@@ -2,7 +2,7 @@
 use borrow.Author.Needs.{needs}
 use borrow.Author.Tests.{not-true}
 use Rattle.image.specs.Walk.{treeIn}
-use Rattle.image.proofs.TurnAttempt.{meets-none}
+use Rattle.image.proofs.Laws.TurnAttempt.{meets-none}
 use Rattle.image.proofs.walk.meet.Statement.{statement}
 use Rattle.image.proofs.walk.meet.Tie as tie
 

@@ -1,7 +1,7 @@
 -- `number_of` meets its contract.
 use native.Mathlib.Omega.{arith}
 use borrow.Author.Needs.{needs}
-use Rattle.image.proofs.WalkChildren.{number-fits}
+use Rattle.image.proofs.Laws.WalkChildren.{number-fits}
 use Rattle.image.proofs.walk.number_of.Statement.{statement}
 use Rattle.image.proofs.walk.number_of.Tie as tie
 

@@ -3,7 +3,7 @@ use Prim.Native.Nat.{_-_}
 use native.Mathlib.Omega.{arith}
 use mathlib.Core.Path.{refl}
 use borrow.Author.Needs.{needs}
-use Rattle.image.proofs.WalkChildren.{Filling, root-fits, filling-again, filling-done}
+use Rattle.image.proofs.Laws.WalkChildren.{Filling, root-fits, filling-again, filling-done}
 use Rattle.image.proofs.walk.root_children.Statement.{statement}
 use Rattle.image.proofs.walk.root_children.Tie as tie
 

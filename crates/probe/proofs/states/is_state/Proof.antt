@@ -2,7 +2,7 @@
 use mathlib.Core.Path.{sym}
 use borrow.Author.Tests.{lt-leb}
 use borrow.Author.Needs.{needs}
-use Rattle.probe.proofs.StatesLent.{isState-room}
+use Rattle.probe.proofs.Laws.States.{isState-room}
 use Rattle.probe.proofs.states.is_state.Statement.{statement}
 use Rattle.probe.proofs.states.is_state.Tie as tie
 

@@ -1,7 +1,7 @@
 -- The stores one after the other, as one list laid over the numbers.
 use native.Mathlib.Omega.{arith}
 use lib.ListN.{length-set, length-map}
-use Rattle.probe.proofs.StatesLent.{laying}
+use Rattle.probe.proofs.Laws.States.{laying}
 use borrow.Author.Needs.{needs}
 use Rattle.probe.proofs.states.lay.Statement.{statement}
 use Rattle.probe.proofs.states.lay.Tie as tie

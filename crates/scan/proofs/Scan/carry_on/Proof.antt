@@ -3,7 +3,7 @@ use mathlib.Core.Bool.{false}
 use borrow.Author.Needs.{needs}
 use Rattle.tables.specs.Tables.{Tables}
 use Rattle.trie.specs.Answers.{tables}
-use Rattle.scan.proofs.JudgeCalls.{carry-refused, carry-settles, fine-steady, fine-due}
+use Rattle.scan.proofs.Laws.Judge.{carry-refused, carry-settles, fine-steady, fine-due}
 use Rattle.scan.proofs.Scan.carry_on.Statement.{statement}
 use Rattle.scan.proofs.Scan.carry_on.Tie as tie
 

@@ -2,7 +2,7 @@
 use borrow.Author.Needs.{needs}
 use Rattle.tables.specs.Tables.{Tables}
 use Rattle.trie.specs.Answers.{tables}
-use Rattle.scan.proofs.JudgeCalls.{supply-refused, counted-steady, taken-steady, taken-due, supply-settles, supply-hits}
+use Rattle.scan.proofs.Laws.Judge.{supply-refused, counted-steady, taken-steady, taken-due, supply-settles, supply-hits}
 use Rattle.scan.proofs.Scan.supply.Statement.{statement}
 use Rattle.scan.proofs.Scan.supply.Tie as tie
 

@@ -10,7 +10,7 @@ use Rattle.trie.specs.Answers.{tables}
 use Rattle.scan.specs.State.{inRange}
 use Rattle.scan.specs.Calls.{judged}
 use Rattle.scan.specs.Results.{judgedOf}
-use Rattle.scan.proofs.JudgeCalls.{turned, judged-broken, unbroken, judged-out, judged-turn}
+use Rattle.scan.proofs.Laws.Judge.{turned, judged-broken, unbroken, judged-out, judged-turn}
 use Rattle.scan.proofs.judge.judge.Statement.{statement}
 use Rattle.scan.proofs.judge.judge.Tie as tie
 

@@ -1,6 +1,6 @@
 -- `between` meets its contract: each way out knows its first test.
 use borrow.Author.Tests.{le-leb, lt-leb}
-use Rattle.scan.proofs.RangesTests.{first-holds, first-fails}
+use Rattle.scan.proofs.Laws.Ranges.{first-holds, first-fails}
 use Rattle.scan.proofs.ranges.between.Statement.{statement}
 use Rattle.scan.proofs.ranges.between.Tie as tie
 

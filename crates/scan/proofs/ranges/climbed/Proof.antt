@@ -1,7 +1,7 @@
 -- `climbed` meets its contract: each turn goes along a run, and to the parent of its last node, which is one less deep.
 use native.Mathlib.Omega.{arith}
 use Rattle.scan.specs.Ways.{Climbs}
-use Rattle.scan.proofs.RangesDepth.{Climb, climb-room, climb-falls, climb-again, climb-runs, climb-done}
+use Rattle.scan.proofs.Laws.RangesDepth.{Climb, climb-room, climb-falls, climb-again, climb-runs, climb-done}
 use borrow.Author.Needs.{needs}
 use Rattle.scan.proofs.ranges.climbed.Statement.{statement}
 use Rattle.scan.proofs.ranges.climbed.Tie as tie

@@ -6,7 +6,7 @@ use native.Mathlib.Omega.{arith}
 use borrow.Author.Tests.{lt-ltb, le-ltb, eq-eqb, ne-eqb, not-false}
 use lib.Dec.{ltb, eqb}
 use lib.ListN.{getD}
-use Rattle.scan.proofs.RangesDue.{due-tests}
+use Rattle.scan.proofs.Laws.RangesDue.{due-tests}
 use borrow.Author.Needs.{needs}
 use Rattle.scan.proofs.ranges.due_ok.Statement.{statement}
 use Rattle.scan.proofs.ranges.due_ok.Tie as tie

@@ -12,8 +12,8 @@ use Rattle.book.specs.Book.{maxImage}
 use Rattle.trie.specs.Answers.{tables}
 use Rattle.scan.specs.State.{maxNodes, farthest, maxSupplied, countOk, imageOk, shortestOk, nodeOk, boundaryOk, suppliedOk}
 use Rattle.scan.specs.Ways.{paths}
-use Rattle.scan.proofs.RangesDepth.{passing-out}
-use Rattle.scan.proofs.RangesTests.{leb-not, range-out, range-tests}
+use Rattle.scan.proofs.Laws.RangesDepth.{passing-out}
+use Rattle.scan.proofs.Laws.Ranges.{leb-not, range-out, range-tests}
 use Rattle.scan.proofs.ranges.in_range.Statement.{statement}
 use Rattle.scan.proofs.ranges.in_range.Tie as tie
 

@@ -2,7 +2,7 @@
 use mathlib.Core.Path.{ap, _∙_}
 use borrow.Author.Tests.{lt-ltb, le-ltb}
 use lib.Dec.{eqb}
-use Rattle.scan.proofs.RangesTests.{first-holds, first-fails}
+use Rattle.scan.proofs.Laws.Ranges.{first-holds, first-fails}
 use borrow.Author.Needs.{needs}
 use Rattle.scan.proofs.ranges.lies.Statement.{statement}
 use Rattle.scan.proofs.ranges.lies.Tie as tie

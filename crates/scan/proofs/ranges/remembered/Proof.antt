@@ -3,7 +3,7 @@ use mathlib.Core.Path.{ap, sym, _∙_}
 use lib.ListN.{length-map}
 use borrow.Author.Needs.{needs}
 use Rattle.scan.specs.State.{used}
-use Rattle.scan.proofs.StretchesSeek.{there, anyOf-holds}
+use Rattle.scan.proofs.Laws.Stretches.{there, anyOf-holds}
 use Rattle.scan.proofs.ranges.remembered.Statement.{statement}
 use Rattle.scan.proofs.ranges.remembered.Tie as tie
 

@@ -8,7 +8,7 @@ use borrow.Author.Tests.{lt-ltb, le-ltb, not-true, not-false}
 use lib.Dec.{leb, ltb}
 use Rattle.scan.specs.State.{stretchOf}
 use Rattle.scan.specs.Ways.{paths}
-use Rattle.scan.proofs.RangesTests.{leb-not, stretch-tests}
+use Rattle.scan.proofs.Laws.Ranges.{leb-not, stretch-tests}
 use borrow.Author.Needs.{needs}
 use Rattle.scan.proofs.ranges.stretch_ok.Statement.{statement}
 use Rattle.scan.proofs.ranges.stretch_ok.Tie as tie

@@ -9,8 +9,8 @@ use borrow.Author.Tests.{not-true, not-false}
 use lib.ListN.{length-map, getD}
 use Rattle.scan.specs.State.{unused}
 use Rattle.scan.specs.Ways.{paths}
-use Rattle.scan.proofs.RangesStretches.{Walked, walk-end, stands, stretches-is, stand-skips, stand-fails, stand-again}
-use Rattle.scan.proofs.RangesTests.{leb-not}
+use Rattle.scan.proofs.Laws.RangesStretches.{Walked, walk-end, stands, stretches-is, stand-skips, stand-fails, stand-again}
+use Rattle.scan.proofs.Laws.Ranges.{leb-not}
 use borrow.Author.Needs.{needs}
 use Rattle.scan.proofs.ranges.stretches_ok.Statement.{statement}
 use Rattle.scan.proofs.ranges.stretches_ok.Tie as tie

@@ -5,7 +5,7 @@ use mathlib.Core.Path.{refl}
 use mathlib.Core.List.{[]}
 use Rattle.trie.specs.Answers.{tables}
 use Rattle.scan.specs.Laws.Ways.{spells}
-use Rattle.scan.proofs.ShiftLower.{Lowered, lowered-begins, lowered-bare, lowered-again, lowered-done}
+use Rattle.scan.proofs.Laws.Shift.{Lowered, lowered-begins, lowered-bare, lowered-again, lowered-done}
 use borrow.Author.Needs.{needs}
 use Rattle.scan.proofs.shift.all_least.Statement.{statement}
 use Rattle.scan.proofs.shift.all_least.Tie as tie

@@ -1,7 +1,7 @@
 -- `bare_four` meets its contract: where the four or together to 0, each is 0.
 use borrow.Author.Needs.{needs}
 use borrow.Author.Tests.{eqb-true}
-use Rattle.scan.proofs.ShiftLower.{bare-four}
+use Rattle.scan.proofs.Laws.Shift.{bare-four}
 use Rattle.scan.proofs.shift.bare_four.Statement.{statement}
 use Rattle.scan.proofs.shift.bare_four.Tie as tie
 

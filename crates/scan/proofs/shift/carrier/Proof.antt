@@ -3,7 +3,7 @@ use Prim.Native.Nat.{_-_, _≤_}
 use native.Mathlib.Omega.{arith}
 use borrow.Author.Needs.{needs}
 use Rattle.scan.specs.Shifts.{Bare}
-use Rattle.scan.proofs.ShiftLower.{bare-more}
+use Rattle.scan.proofs.Laws.Shift.{bare-more}
 use Rattle.scan.proofs.shift.carrier.Statement.{statement}
 use Rattle.scan.proofs.shift.carrier.Tie as tie
 

@@ -6,7 +6,7 @@ use Rattle.rules.specs.Lists.{least}
 use Rattle.agree.specs.Tests.{nodeTest, byteTest}
 use Rattle.tables.specs.Walks.{ending}
 use Rattle.scan.specs.Ways.{paths}
-use Rattle.scan.proofs.ShiftLower.{written-size, written-word, written-length}
+use Rattle.scan.proofs.Laws.Shift.{written-size, written-word, written-length}
 use borrow.Author.Needs.{needs}
 use Rattle.scan.proofs.shift.lower.Statement.{statement}
 use Rattle.scan.proofs.shift.lower.Tie as tie

@@ -1,5 +1,5 @@
 -- `node_lower` meets its contract: without a shift for the last matched byte there is none for all.
-use Rattle.scan.proofs.ShiftLower.{node-fails}
+use Rattle.scan.proofs.Laws.Shift.{node-fails}
 use borrow.Author.Needs.{needs}
 use Rattle.scan.proofs.shift.node_lower.Statement.{statement}
 use Rattle.scan.proofs.shift.node_lower.Tie as tie

@@ -7,7 +7,7 @@ use Rattle.tables.specs.Walks.{ending}
 use Rattle.scan.specs.Ways.{paths}
 use Rattle.scan.specs.Shifts.{closingOf}
 use Rattle.scan.specs.Laws.Ways.{spells}
-use Rattle.scan.proofs.ShiftLower.{written-size, written-word, written-length, both-shifts}
+use Rattle.scan.proofs.Laws.Shift.{written-size, written-word, written-length, both-shifts}
 use borrow.Author.Needs.{needs}
 use Rattle.scan.proofs.shift.shift.Statement.{statement}
 use Rattle.scan.proofs.shift.shift.Tie as tie

@@ -4,7 +4,7 @@ use native.Mathlib.Omega.{arith}
 use borrow.Author.Needs.{needs}
 use borrow.Author.Tests.{not-false}
 use Rattle.scan.specs.Shifts.{Bare}
-use Rattle.scan.proofs.ShiftLower.{bare-none, bare-joins}
+use Rattle.scan.proofs.Laws.Shift.{bare-none, bare-joins}
 use Rattle.scan.proofs.shift.skip.Statement.{statement}
 use Rattle.scan.proofs.shift.skip.Tie as tie
 

@@ -5,7 +5,7 @@ use mathlib.Core.Path.{_≡_, ap, sym, _∙_}
 use mathlib.Core.List.{[]}
 use Rattle.tables.specs.Walks.{lifted}
 use Rattle.scan.specs.Ways.{paths, Climbs}
-use Rattle.scan.proofs.SpellClimb.{parent-below, lift-ends, lift-goes}
+use Rattle.scan.proofs.Laws.Spell.{parent-below, lift-ends, lift-goes}
 use borrow.Author.Needs.{needs}
 use Rattle.scan.proofs.spell.lift.Statement.{statement}
 use Rattle.scan.proofs.spell.lift.Tie as tie

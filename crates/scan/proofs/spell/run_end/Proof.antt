@@ -1,7 +1,7 @@
 -- `run_end` meets its contract: each turn goes to the node before, its parent.
 use mathlib.Core.Path.{sym, _∙_}
 use Rattle.scan.specs.Ways.{Climbs, Run}
-use Rattle.scan.proofs.SpellClimb.{run-begins, run-climbs}
+use Rattle.scan.proofs.Laws.Spell.{run-begins, run-climbs}
 use borrow.Author.Needs.{needs}
 use Rattle.scan.proofs.spell.run_end.Statement.{statement}
 use Rattle.scan.proofs.spell.run_end.Tie as tie

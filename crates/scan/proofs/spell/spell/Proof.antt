@@ -2,7 +2,7 @@
 use mathlib.Core.Path.{refl}
 use native.Mathlib.Omega.{arith}
 use Rattle.scan.specs.Ways.{Spells}
-use Rattle.scan.proofs.SpellClimb.{Spelling, room, spelling-again, spelling-runs, spelling-done}
+use Rattle.scan.proofs.Laws.Spell.{Spelling, room, spelling-again, spelling-runs, spelling-done}
 use borrow.Author.Needs.{needs}
 use Rattle.scan.proofs.spell.spell.Statement.{statement}
 use Rattle.scan.proofs.spell.spell.Tie as tie

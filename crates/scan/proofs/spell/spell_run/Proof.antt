@@ -4,7 +4,7 @@ use mathlib.Core.Path.{refl, sym, _∙_}
 use lib.ListN.{getD, set}
 use native.Mathlib.Omega.{arith}
 use Rattle.scan.specs.Ways.{Spells, Along}
-use Rattle.scan.proofs.SpellClimb.{run-room, run-again}
+use Rattle.scan.proofs.Laws.Spell.{run-room, run-again}
 use borrow.Author.Needs.{needs}
 use Rattle.scan.proofs.spell.spell_run.Statement.{statement}
 use Rattle.scan.proofs.spell.spell_run.Tie as tie

@@ -10,7 +10,7 @@ use Rattle.trie.specs.Answers.{tables}
 use Rattle.scan.specs.State.{configOf}
 use Rattle.scan.specs.Laws.Memory.{within-remembers}
 use Rattle.scan.specs.Laws.Slots.{slots-five}
-use Rattle.scan.proofs.StepsChoose.{over-is, leaf-stops, full-stops, not-stops, ends-is, wants-is, takes-is}
+use Rattle.scan.proofs.Laws.StepsChoose.{over-is, leaf-stops, full-stops, not-stops, ends-is, wants-is, takes-is}
 use Rattle.scan.proofs.steps.choose.Statement.{statement}
 use Rattle.scan.proofs.steps.choose.Tie as tie
 

@@ -1,7 +1,7 @@
 -- `end_round` meets its contract: the shift is searched, and what is remembered at the new boundary is kept.
 use native.Mathlib.Omega.{arith}
 use Rattle.scan.specs.Shifts.{closingOf}
-use Rattle.scan.proofs.StepsTake.{ending-readable, ending-numbers, ending-near, ending-asks, ended-state}
+use Rattle.scan.proofs.Laws.Steps.{ending-readable, ending-numbers, ending-near, ending-asks, ended-state}
 use Rattle.scan.proofs.steps.end_round.Statement.{statement}
 use Rattle.scan.proofs.steps.end_round.Tie as tie
 

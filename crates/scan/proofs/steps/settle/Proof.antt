@@ -9,7 +9,7 @@ use Rattle.trie.specs.Answers.{tables}
 use Rattle.scan.specs.declared.steps.Move.{Move}
 use Rattle.scan.specs.declared.steps.Move.the-variants.{Finished, Wants, End, Take}
 use Rattle.scan.specs.Steps.{Chosen}
-use Rattle.scan.proofs.StepsSettle.{Runs, Onwards, begins, runs-steady, runs-over, runs-wants, runs-ends, takes-on, takes-hit}
+use Rattle.scan.proofs.Laws.StepsSettle.{Runs, Onwards, begins, runs-steady, runs-over, runs-wants, runs-ends, takes-on, takes-hit}
 use Rattle.scan.proofs.steps.settle.Statement.{statement}
 use Rattle.scan.proofs.steps.settle.Tie as tie
 

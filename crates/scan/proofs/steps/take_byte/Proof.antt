@@ -1,7 +1,7 @@
 -- `take_byte` meets its contract: the child that the chain has, with its hit, or the round ends.
 use native.Mathlib.Omega.{arith}
 use borrow.Author.Needs.{needs}
-use Rattle.scan.proofs.StepsTake.{took-end, took-on, took-hit, child-held}
+use Rattle.scan.proofs.Laws.Steps.{took-end, took-on, took-hit, child-held}
 use Rattle.scan.proofs.steps.take_byte.Statement.{statement}
 use Rattle.scan.proofs.steps.take_byte.Tie as tie
 

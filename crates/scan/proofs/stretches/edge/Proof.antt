@@ -3,7 +3,7 @@ use Prim.Native.Nat.{_-_}
 use borrow.Author.Tests.{not-true, not-false}
 use Rattle.rules.specs.Laws.Remember.{Edge, edge-begins, edge-done, edge-again}
 use Rattle.scan.specs.State.{used}
-use Rattle.scan.proofs.StretchesSeek.{restFrom, more, stop, past, via}
+use Rattle.scan.proofs.Laws.Stretches.{restFrom, more, stop, past, via}
 use borrow.Author.Needs.{needs}
 use Rattle.scan.proofs.stretches.edge.Statement.{statement}
 use Rattle.scan.proofs.stretches.edge.Tie as tie

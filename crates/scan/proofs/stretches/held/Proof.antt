@@ -4,8 +4,8 @@ use native.Mathlib.Omega.{arith}
 use mathlib.Core.Path.{refl}
 use mathlib.Core.List.{[]}
 use borrow.Author.Tests.{not-true, not-false}
-use Rattle.scan.proofs.StretchesSeek.{stop, past, via}
-use Rattle.scan.proofs.StretchesSift.{Sifting, sifting-done, lies-here, sifting-again}
+use Rattle.scan.proofs.Laws.Stretches.{stop, past, via}
+use Rattle.scan.proofs.Laws.StretchesSift.{Sifting, sifting-done, lies-here, sifting-again}
 use borrow.Author.Needs.{needs}
 use Rattle.scan.proofs.stretches.held.Statement.{statement}
 use Rattle.scan.proofs.stretches.held.Tie as tie

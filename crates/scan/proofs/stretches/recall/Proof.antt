@@ -3,7 +3,7 @@ use Prim.Native.Nat.{_-_}
 use native.Mathlib.Omega.{arith}
 use borrow.Author.Needs.{needs}
 use Rattle.scan.specs.State.{used}
-use Rattle.scan.proofs.StretchesSeek.{recalled-none, held-climbs, held-inside, lifted-below, recalled}
+use Rattle.scan.proofs.Laws.Stretches.{recalled-none, held-climbs, held-inside, lifted-below, recalled}
 use Rattle.scan.proofs.stretches.recall.Statement.{statement}
 use Rattle.scan.proofs.stretches.recall.Tie as tie
 

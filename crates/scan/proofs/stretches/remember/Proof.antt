@@ -7,7 +7,7 @@ use Rattle.rules.specs.Rules.{leftOver}
 use Rattle.rules.specs.Laws.Limit.Span.{cut-ge}
 use Rattle.rules.specs.Laws.Remember.{lie-later}
 use Rattle.scan.specs.State.{used}
-use Rattle.scan.proofs.StretchesRemember.{Ended, new-before, ends-full, ends-dropped, ends-put}
+use Rattle.scan.proofs.Laws.StretchesRemember.{Ended, new-before, ends-full, ends-dropped, ends-put}
 use borrow.Author.Needs.{needs}
 use Rattle.scan.proofs.stretches.remember.Statement.{statement}
 use Rattle.scan.proofs.stretches.remember.Tie as tie

@@ -5,7 +5,7 @@ use borrow.Author.Tests.{not-true, not-false}
 use borrow.Author.Needs.{needs}
 use Rattle.scan.specs.State.{used}
 use Rattle.scan.specs.Memory.{holding}
-use Rattle.scan.proofs.StretchesSeek.{restFrom, stop, past, seek-none, seek-finds, seek-again}
+use Rattle.scan.proofs.Laws.Stretches.{restFrom, stop, past, seek-none, seek-finds, seek-again}
 use Rattle.scan.proofs.stretches.seek.Statement.{statement}
 use Rattle.scan.proofs.stretches.seek.Tie as tie
 

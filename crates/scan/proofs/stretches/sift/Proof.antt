@@ -1,7 +1,7 @@
 -- `sift` meets its contract.
 use borrow.Author.Tests.{not-true, not-false}
-use Rattle.scan.proofs.StretchesSeek.{via}
-use Rattle.scan.proofs.StretchesSift.{sift-inside, sift-dropped, sift-put}
+use Rattle.scan.proofs.Laws.Stretches.{via}
+use Rattle.scan.proofs.Laws.StretchesSift.{sift-inside, sift-dropped, sift-put}
 use borrow.Author.Needs.{needs}
 use Rattle.scan.proofs.stretches.sift.Statement.{statement}
 use Rattle.scan.proofs.stretches.sift.Tie as tie

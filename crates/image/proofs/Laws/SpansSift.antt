@@ -12,7 +12,7 @@ use Rattle.rules.specs.Laws.All.{All, select-append}
 use Rattle.rules.specs.Laws.Remember.{Lies, staying, Stay, stay-done, stay-again, lie-later}
 use Rattle.image.specs.declared.spans.Spans.{Spans}
 use Rattle.image.specs.Spans.{Places, placed, inUse, renewed, Fits}
-use Rattle.image.proofs.SpansUsed.{spanAt, restFrom, more, past, counts}
+use Rattle.image.proofs.Laws.Spans.{spanAt, restFrom, more, past, counts}
 
 -- A stretch is left over or not, and kept or not.
 module _ (f : Spans) (from next : ℕ) (s : Places) where

@@ -28,7 +28,7 @@ use Rattle.scan.specs.Laws.Within.{slots, moved-config}
 use Rattle.scan.specs.Laws.Stay.{next-within}
 use Rattle.scan.specs.Laws.Settle.{onHit, onNext, onJudged}
 use Rattle.scan.specs.Laws.Kept.{ReadyFor, WithinFor, NextFor, Ample, ample, admitted, admitted-ready, admitted-within, supplied-within}
-use Rattle.scan.proofs.StepsSettle.{moved-steady, not-heard, heard}
+use Rattle.scan.proofs.Laws.StepsSettle.{moved-steady, not-heard, heard}
 
 -- by whether the call is out of turn
 abbrev pub turned : Bool → Judged

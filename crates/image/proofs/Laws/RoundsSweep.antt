@@ -11,7 +11,7 @@ use Rattle.image.specs.Rule5.{tokensOf}
 use Rattle.image.specs.Walk.{Walkable}
 use Rattle.image.specs.Sweeping.{Given, Caches}
 use Rattle.image.specs.Laws.Tables.{walkable}
-use Rattle.image.proofs.WalkChildren.{root-narrow}
+use Rattle.image.proofs.Laws.WalkChildren.{root-narrow}
 
 module _ {book image label token first next : List ℕ} {count shortest : ℕ} (g : Given book image label token first next count shortest) where
   given-walkable : Walkable label token first next count

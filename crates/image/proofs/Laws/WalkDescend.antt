@@ -15,8 +15,8 @@ use Rattle.trie.specs.declared.Child.the-variants.{At, Absent}
 use Rattle.image.specs.declared.walk.Stop.the-variants.{Byte, Nothing}
 use Rattle.image.specs.Rounds.{down, reached}
 use Rattle.image.specs.Walk.{treeIn, Walkable, Kids, arrivalOf}
-use Rattle.image.proofs.WalkChildren.{child-in, child-below, root-none, root-some}
-use Rattle.image.proofs.WalkStep.{down-stop, down-shut, down-on}
+use Rattle.image.proofs.Laws.WalkChildren.{child-in, child-below, root-none, root-some}
+use Rattle.image.proofs.Laws.Walk.{down-stop, down-shut, down-on}
 
 pub record Descending (label token first next image : List ℕ) (count b node depth : ℕ) (marked : Bool) : Type 0 where
   pub held : node < count

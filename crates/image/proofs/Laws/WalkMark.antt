@@ -15,8 +15,8 @@ use Rattle.whole.specs.Image.{room}
 use Rattle.image.specs.Rounds.{mark, passed, met}
 use Rattle.image.specs.Walk.{treeIn, Walkable, note, notes, Noted}
 use Rattle.image.specs.Laws.Notes.{note-length}
-use Rattle.image.proofs.WalkChildren.{child-in, child-below}
-use Rattle.image.proofs.WalkStep.{passed-stop, passed-shut, passed-on, mark-some}
+use Rattle.image.proofs.Laws.WalkChildren.{child-in, child-below}
+use Rattle.image.proofs.Laws.Walk.{passed-stop, passed-shut, passed-on, mark-some}
 
 -- To put the hits left from place n on is to put those found from place `hits` on.
 pub record Noting (ends₀ tokens₀ : List ℕ) (hits : ℕ) (found : List (ℕ × ℕ)) (ends tokens : List ℕ) (n : ℕ) (left : List (ℕ × ℕ)) : Type 0 where

@@ -13,8 +13,8 @@ use Rattle.trie.specs.Answers.{tables}
 use Rattle.scan.specs.declared.Scan.{Scan}
 use Rattle.scan.specs.State.{used, countOk, imageOk, shortestOk, nodeOk, boundaryOk, suppliedOk, stretchOk, stretchesOk, dueOk, inRange}
 use Rattle.scan.specs.Ways.{paths}
-use Rattle.scan.proofs.RangesDepth.{depth-same, rising-same}
-use Rattle.scan.proofs.RangesDue.{due-same}
+use Rattle.scan.proofs.Laws.RangesDepth.{depth-same, rising-same}
+use Rattle.scan.proofs.Laws.RangesDue.{due-same}
 
 pub first-holds : (a b : Bool) → a ≡ true → b ≡ (a && b)
 first-holds a b e = cc

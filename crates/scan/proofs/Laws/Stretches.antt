@@ -24,7 +24,7 @@ use Rattle.scan.specs.Ways.{paths, Climbs}
 use Rattle.scan.specs.Memory.{covers, holding, holderOf, recallBy, Remembers}
 use Rattle.scan.specs.Laws.Within.{Fits}
 use Rattle.scan.specs.Laws.Ways.{lifted-alike}
-use Rattle.scan.proofs.SpellClimb.{falls}
+use Rattle.scan.proofs.Laws.Spell.{falls}
 
 -- the slot i, and the stretches from there on
 abbrev pub slotAt : List Slot → ℕ → Slot

@@ -19,7 +19,7 @@ use Rattle.image.specs.Sweeping.{Given, Standing, Stands, Known, Begun}
 use Rattle.image.specs.Laws.Round.{unmet-none}
 use Rattle.image.specs.Laws.Tables.{walkable, reached-same, met-same}
 use Rattle.image.specs.Laws.Sweeping.{hits-small, turns}
-use Rattle.image.proofs.TurnEnd.{Arrives, Turned}
+use Rattle.image.proofs.Laws.Turn.{Arrives, Turned}
 
 -- A round that met no token puts nothing into the buffers.
 pub meets-none : (tree : Tree ℕ) (image : List ℕ) (b hits : ℕ) (ends tokens : List ℕ)

@@ -9,7 +9,7 @@ use Rattle.rules.specs.Laws.Remember.{Lies}
 use Rattle.rules.specs.Laws.Limit.Count.{loose}
 use Rattle.image.specs.declared.spans.Spans.{Spans}
 use Rattle.image.specs.Spans.{placed, inUse, Fits}
-use Rattle.image.proofs.SpansUsed.{spanAt, restFrom, more, past}
+use Rattle.image.proofs.Laws.Spans.{spanAt, restFrom, more, past}
 
 -- n places were counted up to `from`, and the stretches from i on are left.
 pub record Counting (f : Spans) (q b from n i : ℕ) : Type 0 where

@@ -13,7 +13,7 @@ use Rattle.scan.specs.declared.Stretch.{Stretch as Slot}
 use Rattle.scan.specs.declared.stretches.Filled.{Filled}
 use Rattle.scan.specs.State.{stretchOf, slotOf, inUse, used, laid, maxStretches}
 use Rattle.scan.specs.Memory.{putIn, siftIn, filledWith}
-use Rattle.scan.proofs.StretchesSeek.{slotAt, restFrom, more}
+use Rattle.scan.proofs.Laws.Stretches.{slotAt, restFrom, more}
 
 -- A stretch is laid behind others, or does not fit any more.
 laid-put : (k : ℕ) (ms : List (Stretch ℕ)) (m : Stretch ℕ) → set (laid k ms) (length ms) (slotOf m) ≡ laid k (ms ++ (m ∷ []))

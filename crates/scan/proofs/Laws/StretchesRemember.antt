@@ -15,7 +15,7 @@ use Rattle.scan.specs.declared.stretches.Filled.{Filled}
 use Rattle.scan.specs.State.{slotOf, laid, maxStretches}
 use Rattle.scan.specs.Ways.{paths}
 use Rattle.scan.specs.Memory.{putIn, filledWith, Ends, rememberBy}
-use Rattle.scan.proofs.StretchesSift.{laid-full, put-filled}
+use Rattle.scan.proofs.Laws.StretchesSift.{laid-full, put-filled}
 
 -- A round ended: the new stretch begins at `left` and has the node `up`, and f holds the stretches that stay.
 pub record Ended (parent : List ℕ) (ms : List (Stretch ℕ)) (node d b next left up : ℕ) (f : Filled) : Type 0 where

@@ -15,7 +15,7 @@ use Rattle.rules.specs.Laws.Tests.{split, least-ge}
 use Rattle.agree.specs.Tests.{nodeTest, leastOf}
 use Rattle.agree.specs.Laws.Least.{least-bounds}
 use Rattle.image.specs.Rule5.{tokensOf, Accepted, nameOf, Right, ByNode, ByByte}
-use Rattle.image.proofs.Rule5Tokens.{shortest-near}
+use Rattle.image.proofs.Laws.Rule5.{shortest-near}
 
 -- An entry of the cache that is given `by` at i.
 set-right : (cache : List ℕ) (i by v r : ℕ) → i < length cache → (v ≡ i → by ≡ r) → Right (getD cache v 0) r

@@ -1,0 +1,2 @@
+-- The loops of `lib.rt` over plain lists and numbers.
+pub mod Agree

@@ -1,0 +1,2 @@
+-- What the proofs of `states` share, and of the calls that are lent a state.
+pub mod States
