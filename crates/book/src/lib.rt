@@ -42,12 +42,14 @@ pub struct Numbered {
 }
 
 impl Numbered {
+    // A row of the table.
     pub fn row(number: usize, value: usize) -> Numbered
         ensures { λ r. ⌜ (r .number ≡ number) × (r .value ≡ value) ⌝ }
     {
         Numbered { number, value }
     }
 
+    // No refusal.
     pub fn none() -> Numbered
         ensures { λ r. ⌜ (r .number ≡ 0) × (r .value ≡ 0) ⌝ }
     {
