@@ -1,7 +1,8 @@
 #!/usr/bin/env python3
 """Runs the program `sweep` in folders of its own and compares what it prints with a plain search, the bytes fetched with the reading
-rules, round by round, which are compared with those of steps.py on small images, and refusals with tables.py. Fails at the first
-difference. Wants target/bin/sweep (`rt check sweep`)."""
+rules, round by round, which are compared with those of steps.py on small images, and refusals with tables.py; also where reads give few
+bytes at a time, and where one fails. Fails at the first difference. Wants target/bin/sweep (`rt check sweep`) and gcc."""
+import errno
 import os
 import pathlib
 import random
@@ -20,9 +21,42 @@ HITS = 262144  # the program lists the hits by parts of the image when there are
 PART = 3855  # the most bytes that a part has
 SMALL = 400  # an image that is read step by step too
 LENGTHS = [*range(1, 65), 128, 256, 512, 1024]
-FOLDER, LOCKED = object(), object()  # in a file's place: a folder, and a file that may not be read; None: no file
+# In a file's place: a folder, a file that may not be opened, and one of which every read fails; None: no file.
+FOLDER, LOCKED, MEMORY = object(), object(), object()
 NOBODY = 65534  # root may read all files
 BOOK = books.book_of([b"axbbx"])
+
+# In the place of the C library's `read`: of the file READ_FILE at most READ_MOST bytes a call, and after READ_GOOD bytes errno READ_ERROR.
+READ = r"""
+#include <errno.h>
+#include <limits.h>
+#include <stdio.h>
+#include <stdlib.h>
+#include <string.h>
+#include <sys/syscall.h>
+#include <unistd.h>
+
+static size_t number(const char *name) { return strtoul(getenv(name), NULL, 10); }
+
+ssize_t read(int file, void *bytes, size_t n) {
+    static size_t good;
+    char link[64], path[PATH_MAX] = "";
+    snprintf(link, sizeof link, "/proc/self/fd/%d", file);
+    char *name = readlink(link, path, sizeof path - 1) < 0 ? NULL : strrchr(path, '/');
+    if (name == NULL || strcmp(name + 1, getenv("READ_FILE")) != 0) return syscall(SYS_read, file, bytes, n);
+    size_t most = number("READ_MOST"), left = number("READ_GOOD") - good;
+    if (left == 0) {
+        errno = number("READ_ERROR");
+        return -1;
+    }
+    if (most < n) n = most;
+    if (left < n) n = left;
+    ssize_t got = syscall(SYS_read, file, bytes, n);
+    if (got > 0) good += got;
+    return got;
+}
+"""
+ALL = 1 << 40  # more bytes than any file has
 
 
 def search(bodies, image):
@@ -109,18 +143,35 @@ def place(path, content):
     elif content is LOCKED:
         path.write_bytes(BOOK)
         path.chmod(0)
+    elif content is MEMORY:
+        path.symlink_to("/proc/self/mem")  # place 0 of a process is never there
     elif content is not None:
         path.write_bytes(content)
 
 
-def run(book, image, stdout=subprocess.PIPE):
+def reader(folder):
+    """A library that stands before the C library and has `read` of its own."""
+    source, library = pathlib.Path(folder, "read.c"), pathlib.Path(folder, "read.so")
+    source.write_text(READ)
+    subprocess.run(["gcc", "-O1", "-Wall", "-Werror", "-shared", "-fPIC", "-o", library, source], check=True)
+    return library
+
+
+def reads(library, file, most, good, error):
+    """What tells `reader`'s library how to read."""
+    return {
+        "LD_PRELOAD": str(library), "READ_FILE": file, "READ_MOST": str(most), "READ_GOOD": str(good), "READ_ERROR": str(error),
+    }
+
+
+def run(book, image, stdout=subprocess.PIPE, env=None):
     with tempfile.TemporaryDirectory() as folder:
         os.chmod(folder, 0o755)
         program = shutil.copy(PROGRAM, folder)
         place(pathlib.Path(folder, "book.bin"), book)
         place(pathlib.Path(folder, "image.bin"), image)
         user = NOBODY if os.geteuid() == 0 and LOCKED in (book, image) else None
-        return subprocess.run([program], cwd=folder, stdin=subprocess.DEVNULL, stdout=stdout, stderr=subprocess.PIPE, user=user)
+        return subprocess.run([program], cwd=folder, stdin=subprocess.DEVNULL, stdout=stdout, stderr=subprocess.PIPE, user=user, env=env)
 
 
 def fail(name, *words):
@@ -128,8 +179,8 @@ def fail(name, *words):
     sys.exit(1)
 
 
-def compare(name, book, image):
-    done = run(book, image)
+def compare(name, book, image, env=None):
+    done = run(book, image, env=env)
     wanted = expected(*(x if isinstance(x, bytes) else b"" for x in (book, image)))
     if done.returncode or done.stderr:
         fail(name, "it ended with", done.returncode, done.stderr)
@@ -140,6 +191,46 @@ def compare(name, book, image):
         a, b = (lines[i] if i < len(lines) else "nothing" for lines in (told, wanted))
         if a != b:
             fail(name, f"line {i + 1} is {a!r}, wanted {b!r}")
+
+
+def unread(name, book, image, file, error, env=None):
+    """A read of `file` fails: there is no line, and the error output names the file and says why."""
+    done = run(book, image, env=env)
+    if done.returncode or done.stdout or done.stderr.decode() != f"sweep: cannot read {file}: {os.strerror(error)}\n":
+        fail(name, "it ended with", done.returncode, done.stdout[:100], done.stderr)
+
+
+def failing(library):
+    """Reads that fail at once, halfway and where the file would end."""
+    image, long = b"cccaxbbx", b"a" * 1000000
+
+    def case(book, image, file, most, good, error=errno.EIO):
+        name = f"{file}, at most {most} bytes a read, fails after {good} with errno {error}"
+        return name, book, image, file, error, reads(library, file, most, good, error)
+
+    yield "image.bin fails at once", BOOK, MEMORY, "image.bin", errno.EIO
+    yield "book.bin fails at once", MEMORY, image, "book.bin", errno.EIO
+    for most in (1, 3, ALL):
+        yield from (case(BOOK, image, "book.bin", most, good) for good in range(len(BOOK) + 1))
+        yield from (case(BOOK, image, "image.bin", most, good) for good in range(len(image) + 1))
+        yield from (case(BOOK, long, "image.bin", 999 * most, good) for good in (1, 4096, IMAGE))
+        yield from (case(long, image, "book.bin", 999 * most, good) for good in (1, 4096, 17664))
+    for error in (errno.EINTR, errno.EAGAIN, errno.EINVAL):
+        yield case(BOOK, image, "book.bin", ALL, 0, error)
+        yield case(BOOK, image, "image.bin", ALL, 0, error)
+    yield case(BOOK, image, "image.bin", ALL, 3, errno.EISDIR)  # a folder's first read fails
+    yield case(BOOK[:-1], image, "image.bin", ALL, 3)  # also where the book is refused
+
+
+def short(library):
+    """Reads that give few bytes at a time, and those that would fail past what is wanted of a file."""
+    most_tokens = books.book_of([books.numbered(i, 64) for i in range(256)])
+    for most in (1, 3, 4097):
+        for book, image in ((BOOK, b"cccaxbbx"), (BOOK, bytes(9000) + b"axbbx"), (most_tokens, bytes(IMAGE + 1))):
+            for file in ("book.bin", "image.bin"):
+                yield f"{file}, at most {most} bytes a read", book, image, reads(library, file, most, ALL, errno.EIO)
+    yield "long image.bin", BOOK, bytes(1000000), reads(library, "image.bin", 999, IMAGE + 1, errno.EIO)
+    yield "long book.bin", most_tokens + bytes(1000000), b"", reads(library, "book.bin", 999, 17665, errno.EIO)
 
 
 def missing():
@@ -238,11 +329,18 @@ def main():
         for case in cases:
             compare(*case)
             count += 1
+    with tempfile.TemporaryDirectory() as folder:
+        os.chmod(folder, 0o755)
+        library = reader(folder)
+        for case in short(library):
+            compare(*case)
+            count += 1
+        failed = [unread(*case) for case in failing(library)]
     with open("/dev/full", "w") as full:
         done = run(BOOK, b"cccaxbbx", full)
     if done.returncode or b"could be written" not in done.stderr:
         fail("no room for output", done.returncode, done.stderr)
-    print(f"sweep: {count} books and images, and one with no room for output: all lines are the plain search's")
+    print(f"sweep: {count} books and images, {len(failed)} reads that fail, and one with no room for output: all lines are the plain search's")
 
 
 if __name__ == "__main__":

@@ -1,2 +1,4 @@
--- What the program's functions promise.
+-- What the program's functions promise, and samples of it.
+pub mod Lines
 pub mod Program
+mod Examples

@@ -1,17 +1,42 @@
--- What the program's functions promise: the sweep with tables of its own, and a part as the buffers have it.
+-- What the program's functions promise: which line comes, the sweep with tables of its own, a part as the buffers have it, and what is
+-- read of a file.
 use Prim.Native.Nat.{ℕ, _≤_}
 use mathlib.Core.Path.{_≡_}
+use mathlib.Core.Bool.{true, false}
 use mathlib.Core.List.{List, [], _∷_, map}
+use lib.Dec.{ltb}
 use lib.ListN.{length, take, drop}
+use Rattle.io.specs.Counts.{Counts}
 use Rattle.rules.specs.Tokens.{longestOf}
 use Rattle.rules.specs.Sweep.{further}
-use Rattle.book.specs.Book.{readBook, accepted}
+use Rattle.book.specs.Book.{Verdict, accepted, refused, Totals, readBook, summary}
+use Rattle.book.specs.Answers.{totalled}
 use Rattle.image.specs.declared.Swept.{Swept}
 use Rattle.whole.specs.Image.{room, hitsOf, fetchesOf, counted, noted}
 use Rattle.image.specs.Results.{sweptOf, fetchedOf}
 use Rattle.image.specs.Rule5.{tokensOf}
-use Rattle.sweep.specs.declared.parts.Part.{Part}
 use Rattle.listing.specs.Parts.{fromAt, toAt, listedAt}
+use Rattle.sweep.specs.declared.parts.Part.{Part}
+use Rattle.sweep.specs.declared.files.Got.{Got}
+use Rattle.sweep.specs.declared.files.Got.the-variants.{Bytes, Failed}
+use Rattle.sweep.specs.declared.opening.Opening.{Opening}
+use Rattle.sweep.specs.declared.opening.Opening.the-variants.{Refused, Sweep}
+
+-- How many bytes an image may have.
+abbrev pub imageLimit : ℕ
+imageLimit = 65536
+
+-- Which line comes, by what is read of the book and by the image's length: the book's refusal; then 8; then those of the sweep.
+unfoldable pub opened : Verdict Totals → ℕ → Verdict Totals
+opened (refused k v) n = refused k v
+opened (accepted totals) n = elim (ltb imageLimit n) [ true ↦ refused 8 imageLimit | false ↦ accepted totals ]
+
+unfoldable pub opening : List ℕ → ℕ → Verdict Totals
+opening book n = opened (summary (readBook book)) n
+
+abbrev pub openingOf : Opening → Verdict Totals
+openingOf (Refused why) = refused (why .number) (why .value)
+openingOf (Sweep totals) = accepted (totalled totals)
 
 -- The book is accepted; and its longest token is so long.
 abbrev pub Accepted : List ℕ → Type 0
@@ -44,3 +69,8 @@ pub record Listing (tokens : List (List ℕ)) (image : List ℕ) (at : ℕ) (p :
   pub ends-at : p .to ≡ toAt tokens image at
   pub inside : (p .before ≤ p .hits) × (p .hits ≤ length ends) × (p .hits ≤ length numbers)
   pub lists : listedAt tokens image at ≡ map (further (p .from)) (drop (p .before) (held (p .hits) ends numbers))
+
+-- As many bytes stand at the buffer's start as were read.
+abbrev pub Holds : Got → List ℕ → Type 0
+Holds (Bytes n) buffer = Counts n buffer
+Holds Failed buffer = Unit

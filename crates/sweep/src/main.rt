@@ -1,89 +1,87 @@
 // Sweeps image.bin for the tokens of book.bin, both in the folder it is run in, and lists all hits; or prints why it cannot.
-ghost use Prim.Native.Nat.{ℕ, _≤_};
-ghost use mathlib.Core.Path.{_≡_};
-ghost use mathlib.Core.List.{List};
-ghost use lib.ListN.{length, take};
-ghost use Rattle.io.specs.Counts.{Counts};
-ghost use Rattle.book.specs.Book.{readBook, summary};
-ghost use Rattle.book.specs.Answers.{verdictOf};
-ghost use Rattle.book.specs.Laws.Prefix.{needed};
-ghost use Rattle.sweep.specs.Program.{Known};
+ghost use Prim.Native.Nat.{_≤_};
+ghost use lib.ListN.{length};
+ghost use Rattle.listing.specs.Parts.{maxHits};
+ghost use Rattle.sweep.specs.Program.{imageLimit, Known};
 
+mod files;
 mod lines;
+mod opening;
 mod own;
 mod parts;
+mod pen;
 
 use book::Book;
-use book::Reading;
+use files::Got;
 use image::Swept;
+use opening::LIMIT;
+use opening::Opening;
 
 // As much of a book as can change its answer: at most 256 kinds and 16,384 body bytes are taken, and the next record is judged by its
 // kind and at most 1,024 bytes more. `Prefix` proves it.
 const BOOK: usize = Book::TOKENS + Book::BODIES + 1 + Book::BODY;
 
 // One byte more than an image may have.
-const IMAGE: usize = 65537;
+const IMAGE: usize = LIMIT + 1;
 
 // How many hits the buffers hold.
 const HITS: usize = 262144;
 
-// The first bytes of a file, as many as there is room for; none where it can't be read.
-fn read_file(name: &[u8], bytes: &mut [u8]) -> usize
-    ensures { λ r. ⌜ Counts r (now (bytes .exit)) ⌝ }
+// Sweeps the whole image and lists the hits; where there are more than the buffers hold, by parts. `known` is the number of tokens.
+fn list(
+    book: &[u8],
+    image: &[u8],
+    known: usize,
+    longest: usize,
+    ends: &mut [u32],
+    tokens: &mut [u32],
+)
+    requires { ⌜ Known (now book) longest × (length (now image) ≤ imageLimit) × (maxHits ≤ length (now ends)) × (maxHits ≤ length (now tokens)) ⌝ }
 {
-    let file = os::open_read(name);
-    if file < 0 {
-        return 0;
+    match own::sweep(book, image, ends, tokens) {
+        Swept::Whole(found) => pen::whole(image.len(), known, found, ends, tokens),
+        Swept::TooMany(found) => parts::list(book, image, known, longest, found, ends, tokens),
+        Swept::Unread(_) => unreached(),
+        Swept::TooShort(_) => unreached(),
+        Swept::TooLong(_) => unreached(),
     }
-    let n = io::read_full(file, bytes);
-    libc::close(file);
-    n
 }
 
-// Sweeps the whole image and lists the hits; where there are more than the buffers hold, by parts. `known` is the number of tokens.
+// Stands in arms that are never taken: each call is proved to meet a condition that nothing meets.
+fn unreached()
+    requires { ⌜ ⊥ ⌝ }
+{}
+
+// The same, with buffers of its own.
 fn sweep(book: &[u8], image: &[u8], known: usize, longest: usize)
-    requires { ⌜ Known (now book) longest × (length (now image) ≤ 65536) ⌝ }
+    requires { ⌜ Known (now book) longest × (length (now image) ≤ imageLimit) ⌝ }
 {
     let mut ends = [0u32; HITS];
     let mut tokens = [0u32; HITS];
-    let answer = own::sweep(book, image, &mut ends, &mut tokens);
-    match answer {
-        Swept::Whole(found) => lines::whole(image.len(), known, found, &ends, &tokens),
-        Swept::TooMany(found) => {
-            parts::list(book, image, known, longest, found, &mut ends, &mut tokens)
-        }
-        Swept::Unread(why) => lines::refusal(why),
-        Swept::TooShort(room) => lines::refused(7, room),
-        Swept::TooLong(most) => lines::refused(8, most),
-    }
+    list(book, image, known, longest, &mut ends, &mut tokens)
 }
 
-// Reads a book of which this is the start, or the whole where it is shorter: the answer is the whole book's.
-fn read(start: &[u8]) -> Reading
-    ensures { λ r. ⌜ (verdictOf r ≡ summary (readBook (now (start .entry))))
-        × ((book : List ℕ) → now (start .entry) ≡ take needed book → verdictOf r ≡ summary (readBook book)) ⌝ }
-{
-    book::read(start)
-}
-
-// The book's refusals come first, then 8.
 fn run(book: &[u8], image: &[u8]) {
-    match read(book) {
-        Reading::Refused(why) => lines::refusal(why),
-        Reading::Accepted(totals) => {
-            if IMAGE <= image.len() {
-                lines::refused(8, IMAGE - 1);
-                return;
-            }
-            sweep(book, image, totals.tokens, totals.longest)
-        }
+    match opening::judge(book, image) {
+        Opening::Refused(why) => pen::refused(why),
+        Opening::Sweep(totals) => sweep(book, image, totals.tokens, totals.longest),
     }
 }
 
+// Reads the image, and goes on with both.
+fn read_image(book: &[u8]) {
+    let mut image = [0u8; IMAGE];
+    let Got::Bytes(n) = files::read(b"image.bin", &mut image) else {
+        return;
+    };
+    run(book, &image[..n]);
+}
+
+// After a read that failed no line comes.
 fn main() {
     let mut book = [0u8; BOOK];
-    let mut image = [0u8; IMAGE];
-    let b = read_file(b"book.bin", &mut book);
-    let n = read_file(b"image.bin", &mut image);
-    run(&book[..b], &image[..n]);
+    let Got::Bytes(n) = files::read(b"book.bin", &mut book) else {
+        return;
+    };
+    read_image(&book[..n]);
 }

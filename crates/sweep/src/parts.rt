@@ -7,11 +7,12 @@ ghost use Rattle.book.specs.Book.{accepted};
 ghost use Rattle.image.specs.Rule5.{tokensOf};
 ghost use Rattle.image.specs.Results.{sweptOf};
 ghost use Rattle.listing.specs.Parts.{maxHits, partFrom, partTo};
-ghost use Rattle.sweep.specs.Program.{Known, Listing};
-use crate::lines::Pen;
-use crate::lines::ROOM;
-use crate::lines::wide;
+ghost use Rattle.sweep.specs.Program.{imageLimit, Known, Listing};
+use crate::lines::Line;
 use crate::own;
+use crate::pen::Pen;
+use crate::pen::ROOM;
+use crate::pen::wide;
 use image::Found;
 use image::Swept;
 
@@ -111,15 +112,15 @@ pub fn list(
     ends: &mut [u32],
     tokens: &mut [u32],
 )
-    requires { ⌜ Known (now book) longest × (length (now image) ≤ 65536) × (maxHits ≤ length (now ends)) × (maxHits ≤ length (now tokens)) ⌝ }
+    requires { ⌜ Known (now book) longest × (length (now image) ≤ imageLimit) × (maxHits ≤ length (now ends)) × (maxHits ≤ length (now tokens)) ⌝ }
 {
     let mut out = [0u8; ROOM];
-    let mut pen = Pen::new().head(&mut out, image.len(), known);
+    let mut pen = Pen::new().line(&mut out, Line::Image(image.len(), known));
     let mut at = 0;
     while at < image.len() {
         let p = sweep(book, image, longest, at, ends, tokens);
         pen = pen.hits(&mut out, p.from, p.before, p.hits, ends, tokens);
         at = p.to;
     }
-    pen.end(&mut out, found.hits, found.fetched)
+    pen.end(&mut out, Line::End(found.hits, found.fetched))
 }

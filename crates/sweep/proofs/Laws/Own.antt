@@ -1,17 +1,23 @@
--- A book that is accepted, and the sweep with tables that are long enough for every such book.
+-- A book that is accepted, the sweep with tables that are long enough for every such book, and what it can answer.
 use Prim.Native.Nat.{ℕ, _+_, _≤_}
 use native.Mathlib.Omega.{arith}
-use mathlib.Core.Path.{_≡_, ap, sym, _∙_}
+use mathlib.Core.Path.{_≡_, refl, ap, sym, _∙_}
+use mathlib.Core.Bool.{Bool, true, false}
 use mathlib.Core.List.{List}
 use borrow.Author.Tests.{le-ltb}
+use lib.Dec.{ltb}
 use lib.ListN.{length}
 use Rattle.rules.specs.Tokens.{total, longestOf}
-use Rattle.book.specs.Book.{accepted, Totals, summary, readBook, maxImage}
+use Rattle.book.specs.Book.{Verdict, accepted, refused, Totals, summary, readBook, maxImage}
+use Rattle.book.specs.Answers.{refusalOf}
+use Rattle.book.specs.declared.Refusal.{Refusal}
+use Rattle.book.specs.declared.Refusal.the-variants.{Unfinished, UnknownKind, Trailing, Repeat, OverLimits, NoToken}
 use Rattle.book.specs.Laws.Accepted.{accepted-fit}
 use Rattle.tables.specs.Tables.{Tables, built, written, shortestTable}
 use Rattle.trie.specs.Laws.Answer.{summed}
 use Rattle.image.specs.declared.Swept.{Swept as Answer}
 use Rattle.whole.specs.Image.{room, hitsOf, fetchesOf, counted, noted, sweepImage}
+use Rattle.image.specs.declared.Swept.the-variants.{Unread, TooShort, TooLong}
 use Rattle.image.specs.Results.{sweptOf, fetchedOf}
 use Rattle.image.specs.Rule5.{tokensIn, tokensOf}
 use Rattle.sweep.specs.Program.{Accepted, Known, Answered}
@@ -44,3 +50,29 @@ known book totals e =
     let s = summed book totals e in
     let t : tokensOf book ≡ s .tokens = ap tokensIn (s .read) in
     record { read = s .read ∙ ap accepted (sym t); long = ap (λ a. a .longest) (s .sums) ∙ ap longestOf (sym t) }
+
+-- Of the refusals it answers 12 alone.
+twelve-by : (k v n : ℕ) (b : Bool) → _≡_ {A = Verdict ℕ} (refused k v) (elim b [ true ↦ refused 12 n | false ↦ accepted n ]) → k ≡ 12
+twelve-by k v n true e = cc
+twelve-by k v n false e = absurd (let z : _≡_ {A = ℕ} 0 1 = cc in omega arith)
+
+book-refusal : (why : Refusal) → refusalOf why .0 ≤ 6
+book-refusal (Unfinished at) = omega arith
+book-refusal (UnknownKind at) = omega arith
+book-refusal (Trailing at) = omega arith
+book-refusal (Repeat at) = omega arith
+book-refusal (OverLimits at) = omega arith
+book-refusal NoToken = omega arith
+
+module _ {book image : List ℕ} {r : Answer} {ends numbers ends′ numbers′ : List ℕ} (a : Answered book image r ends numbers ends′ numbers′) where
+  twelve : (k v : ℕ) → sweptOf r ≡ refused k v → k ≡ 12
+  twelve k v e = let n = length (hitsOf (tokensOf book) image) in twelve-by k v n (ltb (room ends numbers) n) (sym e ∙ a .answer)
+
+  pub never-unread : (why : Refusal) → r ≡ Unread why → ⊥
+  never-unread why e = omega (arith, book-refusal why, twelve (refusalOf why .0) (refusalOf why .1) (ap sweptOf e))
+
+  pub never-short : (n : ℕ) → r ≡ TooShort n → ⊥
+  never-short n e = omega (arith, twelve 7 n (ap sweptOf e))
+
+  pub never-long : (n : ℕ) → r ≡ TooLong n → ⊥
+  never-long n e = omega (arith, twelve 8 n (ap sweptOf e))

@@ -57,6 +57,10 @@ module _ (found : List (ℕ × ℕ)) (r : ℕ) (few : length found ≤ r) where
   to-all : (n : ℕ) → n ≤ r → counted r n ≡ accepted n
   to-all n h = cc (le-ltb r n h)
 
+-- The program's buffers have room for a part's hits.
+pub room-enough : {n : ℕ} → n ≡ 262144 → maxHits ≤ n
+room-enough e = omega arith
+
 -- A part that goes on from `at`.
 module _ (book image : List ℕ) (longest at : ℕ) (known : Known book longest) (inside : at < length image) where
   abbrev ts : List (List ℕ)
