@@ -10,7 +10,7 @@ use Rattle.rules.specs.Rules.{trace}
 use Rattle.rules.specs.Sweep.{happens}
 use Rattle.rules.specs.Examples.{Sample, a, b, x, p1, p2, p3, p4, p5, right}
 use Rattle.book.specs.Book.{Reading, readBook, accepted, refused}
-use Rattle.tables.specs.Tables.{Tables, Sizes, Building, built, build}
+use Rattle.tables.specs.Tables.{Building, built, build}
 use Rattle.scan.specs.Start.{started}
 use Rattle.scan.specs.Calls.{Answer, fetch, found, over, refused as denied, carryOn}
 use Rattle.scan.specs.Answers.{answers}

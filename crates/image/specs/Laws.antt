@@ -6,5 +6,5 @@ pub mod Notes
 pub mod Round
 pub mod Roots
 pub mod Tables
-pub mod Sweeping
-pub mod Skimming
+pub mod RoundByRound
+pub mod ShortRounds

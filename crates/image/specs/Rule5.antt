@@ -44,7 +44,7 @@ pub record ByNode (book : List ℕ) (shortest : ℕ) (cache : List ℕ) : Type 0
 
 -- The byte shift by byte and by depths below 64.
 pub record ByByte (book : List ℕ) (shortest : ℕ) (cache : List ℕ) : Type 0 where
-  pub size : length cache ≡ 16384
+  pub size : length cache ≡ 256 * 64
   pub right : (d x : ℕ) → d < 64 → x < 256 → Right (getD cache (256 * d + x) 0) (byteShift (tokensOf book) shortest d (some x))
 
 -- The shift of a round that ends at its first byte, by that byte, if the root has no child for it.

@@ -102,7 +102,7 @@ pub fn sweep(
 {
     let kids = walk::root_children(label, first, next, count);
     let mut nodes = [0u16; 1 + Book::BODIES];
-    let mut bytes = [0u16; 16384];
+    let mut bytes = [0u16; 256 * 64];
     let mut skip = [0u16; 256];
     let mut pairs = [0u16; 65536];
     rounds(

@@ -1,5 +1,5 @@
 -- The reading rules 1 to 6, once for every way to stand for an ending of a token: `E` is the type of nodes, be it an
--- ending's own bytes (`Tokens`) or its number in the tables (crate `trie`).
+-- ending's own bytes (`Tokens`) or its number in the tables (crate `tables`).
 use Prim.Native.Nat.{ℕ, zero, suc, _+_, _-_, _*_, max}
 use mathlib.Core.Bool.{Bool, true, false, _&&_, _||_}
 use mathlib.Core.List.{List, [], _∷_, _++_}

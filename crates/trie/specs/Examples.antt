@@ -1,7 +1,7 @@
 -- Samples of the walk along a chain: nodes 1, 3 and 2 with the labels "a", "b" and "c".
 use Prim.Native.Nat.{ℕ}
 use mathlib.Core.Path.{_≡_, refl}
-use mathlib.Core.List.{List, [], _∷_}
+use mathlib.Core.List.{[], _∷_}
 use Rattle.trie.specs.declared.chain.Way.{Way}
 use Rattle.trie.specs.declared.chain.Way.the-variants.{Found, Ends}
 use Rattle.trie.specs.Chain.{walked}

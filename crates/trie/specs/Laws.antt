@@ -1,7 +1,7 @@
--- What the code's proofs cite: the walk along a chain (Chain), the test node by node (Testing), and insertion into lent tables, by
+-- What the code's proofs cite: the walk along a chain (Chain), the test node by node (NodeByNode), and insertion into lent tables, by
 -- bytes, bodies and tokens, up to the answer (Over to Answer).
 pub mod Chain
-pub mod Testing
+pub mod NodeByNode
 pub mod Over
 pub mod InPlace
 pub mod Bodies

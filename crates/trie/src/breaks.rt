@@ -7,7 +7,7 @@ ghost use Rattle.tables.specs.Broken.{linked, sound, firstBreak, broken, tested
 ghost use Rattle.trie.specs.Answers.{tables, testedOf, ownSound};
 ghost use Rattle.trie.specs.InPlace.{Room};
 ghost use Rattle.tables.specs.Laws.Shape.{up};
-ghost use Rattle.trie.specs.Laws.Testing.{Reach, Chain};
+ghost use Rattle.trie.specs.Laws.NodeByNode.{Reach, Chain};
 use crate::Tested;
 use crate::climbs::depth_at;
 use crate::entries::least;

@@ -12,7 +12,7 @@ use Rattle.image.specs.Rule5.{tokensOf}
 use Rattle.image.specs.Walk.{notes}
 use Rattle.image.specs.Sweeping.{Given, Standing, Stands, Known, Caches, Begun, Skimmable, onAt, Leads}
 use Rattle.image.specs.Laws.Notes.{notes-length, notes-append, notes-over}
-use Rattle.image.specs.Laws.Sweeping.{begins, all-found, all-fetched, fetched-small}
+use Rattle.image.specs.Laws.RoundByRound.{begins, all-found, all-fetched, fetched-small}
 use Rattle.image.proofs.Laws.TurnAttempt.{Goes}
 
 -- A part of the hits found lies in a buffer.

@@ -12,8 +12,8 @@ use Rattle.book.specs.Laws.Accepted.{accepted-setting}
 use Rattle.image.specs.declared.skim.Skipped.{Skipped}
 use Rattle.image.specs.Rule5.{tokensOf, BySkip}
 use Rattle.image.specs.Sweeping.{Stands, Cached, Four, Paired, Skimmable, onAt, Leads, Skimmed}
-use Rattle.image.specs.Laws.Sweeping.{fetched-small, short-upto}
-use Rattle.image.specs.Laws.Skimming.{skims, skims-two}
+use Rattle.image.specs.Laws.RoundByRound.{fetched-small, short-upto}
+use Rattle.image.specs.Laws.ShortRounds.{skims, skims-two}
 
 pub cached-is : {image skip : List ℕ} {b m n : ℕ} → Cached image skip b m → m ≡ n → Cached image skip b n
 cached-is {image} {skip} {b} k e = subst (Cached image skip b) e k

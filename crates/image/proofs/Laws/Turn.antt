@@ -24,7 +24,7 @@ use Rattle.image.specs.Rule5.{tokensOf, Accepted, closingOf, nameOf, ByS
 use Rattle.image.specs.Sweeping.{Standing, Known, lowestOf, Learns, endAt, shiftAt, ByPair, Sees, Ended}
 use Rattle.image.specs.Laws.Roots.{first-shut, down-closes}
 use Rattle.image.specs.Laws.Spans.{none-renewed, none-loose, loose-upto}
-use Rattle.image.specs.Laws.Sweeping.{depths, matched, raised, renewed-few, stands-fit, fetched-small}
+use Rattle.image.specs.Laws.RoundByRound.{depths, matched, raised, renewed-few, stands-fit, fetched-small}
 
 -- The leftmost place.
 pub lowest-upto : (b depth : ℕ) (stop : Stop) → lowestOf b depth stop ≤ b

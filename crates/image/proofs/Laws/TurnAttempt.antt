@@ -18,7 +18,7 @@ use Rattle.image.specs.Walk.{treeIn, Walkable, stopOf, arrivalOf, Noted}
 use Rattle.image.specs.Sweeping.{Given, Standing, Stands, Known, Begun}
 use Rattle.image.specs.Laws.Round.{unmet-none}
 use Rattle.image.specs.Laws.Tables.{walkable, reached-same, met-same}
-use Rattle.image.specs.Laws.Sweeping.{hits-small, turns}
+use Rattle.image.specs.Laws.RoundByRound.{hits-small, turns}
 use Rattle.image.proofs.Laws.Turn.{Arrives, Turned}
 
 -- A round that met no token puts nothing into the buffers.

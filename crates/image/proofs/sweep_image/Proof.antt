@@ -1,5 +1,5 @@
 -- `sweep_image` meets its contract: by what `refuse`, building and the sweep answer.
-use Prim.Native.Nat.{_≤_, min}
+use Prim.Native.Nat.{_≤_}
 use mathlib.Core.Path.{ap, sym, _∙_}
 use borrow.Author.Needs.{needs}
 use lib.ListN.{length}

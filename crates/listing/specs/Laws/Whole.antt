@@ -16,7 +16,7 @@ use Rattle.book.specs.Laws.Accepted.{accepted-setting, accepted-longest}
 use Rattle.listing.specs.Parts.{past, upTo, fromAt, toAt, listedFrom}
 use Rattle.listing.specs.Laws.Part.{part}
 
--- A filter that each element passes, and one that none passes.
+-- A test that each element passes, and one that none passes.
 module _ {A : Type 0} (p : A → Bool) where
   pub select-all : (l : List A) → ((a : A) → List·Memᴰ a l → p a ≡ true) → select p l ≡ l
   select-all [] f = refl

@@ -1,4 +1,4 @@
--- What holds of each element of a list, and of a list that was filtered.
+-- What holds of each element of a list, and of those that are selected from it.
 use Prim.Native.Nat.{suc, _≤_}
 use native.Mathlib.Omega.{arith}
 use mathlib.Core.Path.{_≡_, refl, ap}

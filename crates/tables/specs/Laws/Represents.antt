@@ -44,7 +44,7 @@ pub record Represents (t : Tables) (count : ℕ) (tokens : List (List ℕ)) : Ty
   pub leaf : (v : ℕ) → v < count
       → eqb (getD (t .first) v 0) 0 ≡ not (anyOf (λ u. ltb (length (ending t v)) (length u) && ends (ending t v) u) tokens)
   pub token : (v : ℕ) → v < count → getD (t .token) v 0 ≡ numberFrom 1 (ending t v) tokens
-  pub words-any : (p : List ℕ → Bool) → anyOf p (words t count) ≡ anyOf p tokens
+  pub words-pass : (p : List ℕ → Bool) → anyOf p (words t count) ≡ anyOf p tokens
   pub shift : (shortest : ℕ) (u : List ℕ) (closing : Option ℕ) → shiftOf (words t count) shortest u closing ≡ shiftOf tokens shortest u closing
   pub byteAt : (shortest v k : ℕ) → v < count → k < depth t v → ofTables t count shortest .byteAt v k ≡ fromRight (ending t v) k
   pub ancestor : (shortest v k : ℕ) → v < count → k ≤ depth t v
@@ -77,7 +77,7 @@ represents tokens t n fs fit h k = record {
   child = child tokens t n fs;
   leaf = leaf tokens t n fs;
   token = token tokens t n fs fit;
-  words-any = word tokens t n fs;
+  words-pass = word tokens t n fs;
   shift = shift-same (words t n) tokens (word tokens t n fs);
   byteAt = λ S v k v< k<. bytes tokens t n fs (depth t v - 1 - k) v v< (omega arith);
   ancestor = λ S v k v< k≤. lifts tokens t n fs (depth t v - k) v v<;

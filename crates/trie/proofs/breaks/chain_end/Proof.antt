@@ -7,7 +7,7 @@ use borrow.Author.Tests.{not-false}
 use borrow.Author.Needs.{needs}
 use Rattle.trie.specs.Answers.{tables}
 use Rattle.tables.specs.Laws.Shape.{up, sib}
-use Rattle.trie.specs.Laws.Testing.{Chain, chain-none, chain-more}
+use Rattle.trie.specs.Laws.NodeByNode.{Chain, chain-none, chain-more}
 use Rattle.trie.proofs.breaks.chain_end.Statement.{statement}
 use Rattle.trie.proofs.breaks.chain_end.Tie as tie
 

@@ -8,7 +8,7 @@ use borrow.Author.Needs.{needs}
 use Rattle.tables.specs.Tables.{Tables}
 use Rattle.tables.specs.Broken.{sound, firstBreak, broken, tested}
 use Rattle.trie.specs.Answers.{tables}
-use Rattle.trie.specs.Laws.Testing.{short-breaks, long-enough, root-breaks, root-passes, root-up, break-bare}
+use Rattle.trie.specs.Laws.NodeByNode.{short-breaks, long-enough, root-breaks, root-passes, root-up, break-bare}
 use Rattle.trie.proofs.breaks.first_break.Statement.{statement}
 use Rattle.trie.proofs.breaks.first_break.Tie as tie
 

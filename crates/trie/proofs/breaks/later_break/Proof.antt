@@ -12,7 +12,7 @@ use Rattle.tables.specs.Walks.{depth}
 use Rattle.tables.specs.Broken.{tested}
 use Rattle.trie.specs.Answers.{tables}
 use Rattle.tables.specs.Laws.Shape.{up}
-use Rattle.trie.specs.Laws.Testing.{Passing, Standing, begins, done, high-breaks, falls-on, deep-breaks, stands, stands-end, own-breaks, again, depth-bare, falling-bare}
+use Rattle.trie.specs.Laws.NodeByNode.{Passing, Standing, begins, done, high-breaks, falls-on, deep-breaks, stands, stands-end, own-breaks, again, depth-bare, falling-bare}
 use Rattle.trie.proofs.breaks.later_break.Statement.{statement}
 use Rattle.trie.proofs.breaks.later_break.Tie as tie
 

@@ -6,7 +6,7 @@ use mathlib.Core.List.{[]}
 use borrow.Author.Needs.{needs}
 use Rattle.tables.specs.Walks.{depth}
 use Rattle.trie.specs.Answers.{tables}
-use Rattle.trie.specs.Laws.Testing.{Climbing, climb-on}
+use Rattle.trie.specs.Laws.NodeByNode.{Climbing, climb-on}
 use Rattle.trie.proofs.climbs.climb.Statement.{statement}
 use Rattle.trie.proofs.climbs.climb.Tie as tie
 

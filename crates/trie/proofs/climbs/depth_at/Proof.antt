@@ -7,7 +7,7 @@ use borrow.Author.Needs.{needs}
 use Rattle.tables.specs.Tables.{Tables}
 use Rattle.tables.specs.Walks.{depth}
 use Rattle.trie.specs.Answers.{tables}
-use Rattle.trie.specs.Laws.Testing.{falling-below, depth-up, depth-le}
+use Rattle.trie.specs.Laws.NodeByNode.{falling-below, depth-up, depth-le}
 use Rattle.trie.proofs.climbs.depth_at.Statement.{statement}
 use Rattle.trie.proofs.climbs.depth_at.Tie as tie
 

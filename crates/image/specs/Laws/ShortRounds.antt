@@ -16,7 +16,7 @@ use Rattle.image.specs.Rule5.{tokensOf, BySkip}
 use Rattle.image.specs.Sweeping.{Standing, Stands, Seen, onAt}
 use Rattle.image.specs.Laws.Roots.{down-local, first-ends}
 use Rattle.image.specs.Laws.Spans.{none-renewed, none-loose}
-use Rattle.image.specs.Laws.Sweeping.{turns, raised, unmet}
+use Rattle.image.specs.Laws.RoundByRound.{turns, raised, unmet}
 
 -- What it fetches and remembers, if it ends so at boundary b, d deep.
 module _ (f : Spans) (none : f .used ≡ 0) (b d y : ℕ) (r : Reached (List ℕ)) (deep : r .depth ≡ d) (closing : r .closing ≡ some y)
