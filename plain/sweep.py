@@ -200,6 +200,22 @@ def unread(name, book, image, file, error, env=None):
         fail(name, "it ended with", done.returncode, done.stdout[:100], done.stderr)
 
 
+def unwritten(name, book, image):
+    """No line can be written: the error output says so once."""
+    with open("/dev/full", "w") as full:
+        done = run(book, image, full)
+    if done.returncode or done.stderr.decode() != f"sweep: not all lines could be written: {os.strerror(errno.ENOSPC)}\n":
+        fail(name, "it ended with", done.returncode, done.stderr)
+
+
+def no_room():
+    """Output of one line, of one buffer, and of several: all hits in the program's buffer, and by parts."""
+    yield "a refusal, no room", BOOK[:-1], b""
+    yield "one hit, no room", BOOK, b"cccaxbbx"
+    yield "hits of several buffers, no room", books.book_of([b"a"]), b"a" * IMAGE
+    yield "hits by parts, no room", books.book_of([b"a" * k for k in range(1, 6)]), b"a" * IMAGE
+
+
 def failing(library):
     """Reads that fail at once, halfway and where the file would end."""
     image, long = b"cccaxbbx", b"a" * 1000000
@@ -336,11 +352,9 @@ def main():
             compare(*case)
             count += 1
         failed = [unread(*case) for case in failing(library)]
-    with open("/dev/full", "w") as full:
-        done = run(BOOK, b"cccaxbbx", full)
-    if done.returncode or b"could be written" not in done.stderr:
-        fail("no room for output", done.returncode, done.stderr)
-    print(f"sweep: {count} books and images, {len(failed)} reads that fail, and one with no room for output: all lines are the plain search's")
+    full = [unwritten(*case) for case in no_room()]
+    print(f"sweep: {count} books and images, {len(failed)} reads that fail, and {len(full)} with no room for output:", end=" ")
+    print("all lines are the plain search's")
 
 
 if __name__ == "__main__":

@@ -15,7 +15,7 @@ abbrev pub ascii : String → List ℕ
 ascii done = []
 ascii (c next s) = code c ∷ ascii s
 
--- A number in decimal: below 10 its digit, else the digits of its tenth and then its last.
+-- A number in decimal, in so many steps at most: below 10 its digit, else the digits of its tenth and then its last.
 abbrev pub decimalBy : ℕ → ℕ → List ℕ
 decimalBy zero n = []
 decimalBy (suc fuel) n =
@@ -24,6 +24,7 @@ decimalBy (suc fuel) n =
       | false ↦ decimalBy fuel (n / 10) ++ ((48 + n % 10) ∷ [])
     ]
 
+-- A number in decimal: n + 1 steps are enough.
 abbrev pub decimal : ℕ → List ℕ
 decimal n = decimalBy (suc n) n
 
@@ -31,11 +32,12 @@ decimal n = decimalBy (suc n) n
 abbrev pub line : List ℕ → ℕ → List ℕ → ℕ → List ℕ
 line one a two b = (one ++ decimal a) ++ (two ++ decimal b) ++ ascii "\n"
 
-abbrev pub bytesOf : Line → List ℕ
-bytesOf (Image n tokens) = line (ascii "image ") n (ascii " tokens ") tokens
-bytesOf (Hit at token) = line (ascii "hit ") at (ascii " ") token
-bytesOf (End hits fetched) = line (ascii "end ") hits (ascii " ") fetched
-bytesOf (Refused number value) = line (ascii "refused ") number (ascii " ") value
+-- The bytes of each of the four lines.
+abbrev pub lineBytes : Line → List ℕ
+lineBytes (Image n tokens) = line (ascii "image ") n (ascii " tokens ") tokens
+lineBytes (Hit at token) = line (ascii "hit ") at (ascii " ") token
+lineBytes (End hits fetched) = line (ascii "end ") hits (ascii " ") fetched
+lineBytes (Refused number value) = line (ascii "refused ") number (ascii " ") value
 
 -- No line that is printed is longer.
 abbrev pub longestLine : ℕ

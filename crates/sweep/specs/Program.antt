@@ -1,16 +1,17 @@
 -- What the program's functions promise: which line comes, the sweep with tables of its own, a part as the buffers have it, and what is
 -- read of a file.
-use Prim.Native.Nat.{ℕ, _≤_}
+use Prim.Native.Nat.{ℕ, zero, suc, _≤_}
 use mathlib.Core.Path.{_≡_}
-use mathlib.Core.Bool.{true, false}
+use mathlib.Core.Bool.{Bool, true, false}
 use mathlib.Core.List.{List, [], _∷_, map}
-use lib.Dec.{ltb}
+use lib.Dec.{ltb, eqb}
+use lib.IntN.{ℤ, pos, negsuc}
 use lib.ListN.{length, take, drop}
 use Rattle.io.specs.Counts.{Counts}
-use Rattle.rules.specs.Tokens.{longestOf}
 use Rattle.rules.specs.Sweep.{further}
 use Rattle.book.specs.Book.{Verdict, accepted, refused, Totals, readBook, summary}
-use Rattle.book.specs.Answers.{totalled}
+use Rattle.book.specs.Answers.{Amounts, totalled}
+use Rattle.book.specs.declared.Totals.{Totals as Sums}
 use Rattle.image.specs.declared.Swept.{Swept}
 use Rattle.whole.specs.Image.{room, hitsOf, fetchesOf, counted, noted}
 use Rattle.image.specs.Results.{sweptOf, fetchedOf}
@@ -19,6 +20,8 @@ use Rattle.listing.specs.Parts.{fromAt, toAt, listedAt}
 use Rattle.sweep.specs.declared.parts.Part.{Part}
 use Rattle.sweep.specs.declared.files.Got.{Got}
 use Rattle.sweep.specs.declared.files.Got.the-variants.{Bytes, Failed}
+use Rattle.sweep.specs.declared.files.Next.{Next}
+use Rattle.sweep.specs.declared.files.Next.the-variants.{More, Over}
 use Rattle.sweep.specs.declared.opening.Opening.{Opening}
 use Rattle.sweep.specs.declared.opening.Opening.the-variants.{Refused, Sweep}
 
@@ -31,20 +34,23 @@ unfoldable pub opened : Verdict Totals → ℕ → Verdict Totals
 opened (refused k v) n = refused k v
 opened (accepted totals) n = elim (ltb imageLimit n) [ true ↦ refused 8 imageLimit | false ↦ accepted totals ]
 
+-- Which line comes for a book and an image of n bytes.
 unfoldable pub opening : List ℕ → ℕ → Verdict Totals
 opening book n = opened (summary (readBook book)) n
 
+-- What the program judges, as a verdict.
 abbrev pub openingOf : Opening → Verdict Totals
 openingOf (Refused why) = refused (why .number) (why .value)
 openingOf (Sweep totals) = accepted (totalled totals)
 
--- The book is accepted; and its longest token is so long.
+-- The book is accepted.
 abbrev pub Accepted : List ℕ → Type 0
 Accepted book = readBook book ≡ accepted (tokensOf book)
 
-pub record Known (book : List ℕ) (longest : ℕ) : Type 0 where
+-- The book is accepted, and the totals are those of its tokens.
+pub record Known (book : List ℕ) (totals : Sums) : Type 0 where
   pub read : Accepted book
-  pub long : longest ≡ longestOf (tokensOf book)
+  pub sums : Amounts totals (tokensOf book)
 
 -- The answer is that of the sweep of the image, and the buffers, as lent and as left, have its hits.
 pub record Answered (book image : List ℕ) (r : Swept) (ends numbers ends′ numbers′ : List ℕ) : Type 0 where
@@ -53,12 +59,13 @@ pub record Answered (book image : List ℕ) (r : Swept) (ends numbers ends′ nu
   pub in-ends : ends′ ≡ noted (λ h. h .0) (room ends numbers) (hitsOf (tokensOf book) image) ends
   pub in-tokens : numbers′ ≡ noted (λ h. h .1) (room ends numbers) (hitsOf (tokensOf book) image) numbers
 
--- The hits that the buffers' first n entries are.
+-- The ends and numbers of hits, side by side.
 abbrev pub pairs : List ℕ → List ℕ → List (ℕ × ℕ)
 pairs [] l = []
 pairs (e ∷ es) [] = []
 pairs (e ∷ es) (i ∷ is) = (e, i) ∷ pairs es is
 
+-- The hits that the buffers' first n entries are.
 abbrev pub held : ℕ → List ℕ → List ℕ → List (ℕ × ℕ)
 held n ends numbers = pairs (take n ends) (take n numbers)
 
@@ -70,7 +77,15 @@ pub record Listing (tokens : List (List ℕ)) (image : List ℕ) (at : ℕ) (p :
   pub inside : (p .before ≤ p .hits) × (p .hits ≤ length ends) × (p .hits ≤ length numbers)
   pub lists : listedAt tokens image at ≡ map (further (p .from)) (drop (p .before) (held (p .hits) ends numbers))
 
--- As many bytes stand at the buffer's start as were read.
+-- The number of bytes read is one of the buffer's.
 abbrev pub Holds : Got → List ℕ → Type 0
 Holds (Bytes n) buffer = Counts n buffer
 Holds Failed buffer = Unit
+
+-- What comes after a read, by its answer, where `done` bytes were read before: a negative one is a failure, but a folder's first read
+-- counts as a file's end; 0 is the file's end; after any other there is more.
+abbrev pub afterRead : ℤ → ℕ → Bool → Next
+afterRead (negsuc k) done false = Over Failed
+afterRead (negsuc k) done true = elim (eqb done 0) [ true ↦ Over (Bytes 0) | false ↦ Over Failed ]
+afterRead (pos zero) done folder = Over (Bytes done)
+afterRead (pos (suc k)) done folder = More

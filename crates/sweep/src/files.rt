@@ -1,12 +1,34 @@
 // The files that are read.
-ghost use Prim.Native.Nat.{ℕ};
-ghost use mathlib.Core.List.{List};
-ghost use Rattle.sweep.specs.Program.{Holds};
+ghost use mathlib.Core.Path.{_≡_};
+ghost use Rattle.sweep.specs.Program.{Holds, afterRead};
 
 // What reading a file gives: how many bytes it put at the start of the buffer; or it failed before the file's end.
 pub enum Got {
     Bytes(usize),
     Failed,
+}
+
+// What comes after a read: more of the file; or the reading is over.
+pub enum Next {
+    More,
+    Over(Got),
+}
+
+// By what the read answered, how many bytes were read before, and whether it failed since the file is a folder. A folder opens, but its
+// first read fails; it counts as empty.
+fn after(got: isize, done: usize, folder: bool) -> Next
+    ensures { λ r. ⌜ r ≡ afterRead got done folder ⌝ }
+{
+    if got < 0 {
+        if folder && done == 0 {
+            return Next::Over(Got::Bytes(0));
+        }
+        return Next::Over(Got::Failed);
+    }
+    if got == 0 {
+        return Next::Over(Got::Bytes(done));
+    }
+    Next::More
 }
 
 // Reads until the buffer is full, the file ends or a read fails. A read that a signal interrupts counts as one that failed.
@@ -16,40 +38,18 @@ fn fill(file: i32, buffer: &mut [u8]) -> Got
     let mut done = 0;
     while done < buffer.len() {
         let got = libc::read(file, &mut buffer[done..]);
-        if got < 0 {
-            return failure(done);
+        let folder = got < 0 && os::errno() == libc::EISDIR;
+        if let Next::Over(end) = after(got, done, folder) {
+            return end;
         }
-        let more = io::count(got, &buffer[done..]);
-        if more == 0 {
-            return Got::Bytes(done);
-        }
-        done += more;
+        done += io::count(got, &buffer[done..]);
     }
     Got::Bytes(done)
 }
 
-// A folder opens, but its first read fails; it counts as empty. `done` bytes were read before.
-fn failure(done: usize) -> Got
-    ensures { λ r. ⌜ ((buffer : List ℕ) → Holds r buffer) ⌝ }
-{
-    if 0 < done {
-        return Got::Failed;
-    }
-    if os::errno() == libc::EISDIR {
-        Got::Bytes(0)
-    } else {
-        Got::Failed
-    }
-}
-
-// Says which file could not be read, and why.
-fn complain(name: &[u8]) {
-    io::write_all(2, b"sweep: cannot read ");
-    os::fail(name);
-}
-
-// The first bytes of a file, as many as there is room for. A file that can't be opened counts as empty.
-pub fn read(name: &[u8], buffer: &mut [u8]) -> Got
+// The first bytes of a file, as many as there is room for. A file that can't be opened counts as empty. Of a read that fails, `what` and
+// the reason are said.
+pub fn read(name: &[u8], what: &[u8], buffer: &mut [u8]) -> Got
     ensures { λ r. ⌜ Holds r (now (buffer .exit)) ⌝ }
 {
     let file = os::open_read(name);
@@ -58,7 +58,7 @@ pub fn read(name: &[u8], buffer: &mut [u8]) -> Got
     }
     let got = fill(file, buffer);
     if let Got::Failed = got {
-        complain(name);
+        os::fail(what);
     }
     libc::close(file);
     got

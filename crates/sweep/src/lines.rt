@@ -3,7 +3,7 @@ ghost use Prim.Native.Nat.{_+_, _≤_};
 ghost use mathlib.Core.Path.{_≡_};
 ghost use mathlib.Core.List.{_++_};
 ghost use lib.ListN.{length, take};
-ghost use Rattle.sweep.specs.Lines.{decimal, longestLine, line, bytesOf};
+ghost use Rattle.sweep.specs.Lines.{decimal, longestLine, line, lineBytes};
 
 // No line is longer: two words of at most 8 bytes, two numbers of at most 20 digits, and the newline.
 pub const LONGEST: usize = 64;
@@ -61,7 +61,7 @@ fn whole_line(out: &mut [u8], at: usize, one: &[u8], a: usize, two: &[u8], b: us
 // The line behind the first `at` bytes of the buffer.
 pub fn put(out: &mut [u8], at: usize, what: Line) -> usize
     requires { ⌜ at + longestLine ≤ length (now out) ⌝ }
-    ensures { λ r. ⌜ (r ≤ length (now (out .exit))) × (take r (now (out .exit)) ≡ take at (now (out .entry)) ++ bytesOf what) ⌝ }
+    ensures { λ r. ⌜ (r ≤ length (now (out .exit))) × (take r (now (out .exit)) ≡ take at (now (out .entry)) ++ lineBytes what) ⌝ }
 {
     match what {
         Line::Image(n, tokens) => whole_line(out, at, b"image ", n, b" tokens ", tokens),

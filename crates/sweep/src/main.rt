@@ -6,12 +6,14 @@ ghost use Rattle.sweep.specs.Program.{imageLimit, Known};
 
 mod files;
 mod lines;
+mod numbers;
 mod opening;
 mod own;
 mod parts;
 mod pen;
 
 use book::Book;
+use book::Totals;
 use files::Got;
 use image::Swept;
 use opening::LIMIT;
@@ -27,20 +29,13 @@ const IMAGE: usize = LIMIT + 1;
 // How many hits the buffers hold.
 const HITS: usize = 262144;
 
-// Sweeps the whole image and lists the hits; where there are more than the buffers hold, by parts. `known` is the number of tokens.
-fn list(
-    book: &[u8],
-    image: &[u8],
-    known: usize,
-    longest: usize,
-    ends: &mut [u32],
-    tokens: &mut [u32],
-)
-    requires { ⌜ Known (now book) longest × (length (now image) ≤ imageLimit) × (maxHits ≤ length (now ends)) × (maxHits ≤ length (now tokens)) ⌝ }
+// Sweeps the whole image and lists the hits; where there are more than the buffers hold, by parts.
+fn list(book: &[u8], image: &[u8], totals: Totals, ends: &mut [u32], tokens: &mut [u32])
+    requires { ⌜ Known (now book) totals × (length (now image) ≤ imageLimit) × (maxHits ≤ length (now ends)) × (maxHits ≤ length (now tokens)) ⌝ }
 {
     match own::sweep(book, image, ends, tokens) {
-        Swept::Whole(found) => pen::whole(image.len(), known, found, ends, tokens),
-        Swept::TooMany(found) => parts::list(book, image, known, longest, found, ends, tokens),
+        Swept::Whole(found) => pen::whole(image, totals, found, ends, tokens),
+        Swept::TooMany(found) => parts::list(book, image, totals, found, ends, tokens),
         Swept::Unread(_) => unreached(),
         Swept::TooShort(_) => unreached(),
         Swept::TooLong(_) => unreached(),
@@ -53,25 +48,26 @@ fn unreached()
 {}
 
 // The same, with buffers of its own.
-fn sweep(book: &[u8], image: &[u8], known: usize, longest: usize)
-    requires { ⌜ Known (now book) longest × (length (now image) ≤ imageLimit) ⌝ }
+fn sweep(book: &[u8], image: &[u8], totals: Totals)
+    requires { ⌜ Known (now book) totals × (length (now image) ≤ imageLimit) ⌝ }
 {
     let mut ends = [0u32; HITS];
     let mut tokens = [0u32; HITS];
-    list(book, image, known, longest, &mut ends, &mut tokens)
+    list(book, image, totals, &mut ends, &mut tokens)
 }
 
 fn run(book: &[u8], image: &[u8]) {
     match opening::judge(book, image) {
         Opening::Refused(why) => pen::refused(why),
-        Opening::Sweep(totals) => sweep(book, image, totals.tokens, totals.longest),
+        Opening::Sweep(totals) => sweep(book, image, totals),
     }
 }
 
 // Reads the image, and goes on with both.
 fn read_image(book: &[u8]) {
     let mut image = [0u8; IMAGE];
-    let Got::Bytes(n) = files::read(b"image.bin", &mut image) else {
+    let Got::Bytes(n) = files::read(b"image.bin", b"sweep: cannot read image.bin", &mut image)
+    else {
         return;
     };
     run(book, &image[..n]);
@@ -80,7 +76,7 @@ fn read_image(book: &[u8]) {
 // After a read that failed no line comes.
 fn main() {
     let mut book = [0u8; BOOK];
-    let Got::Bytes(n) = files::read(b"book.bin", &mut book) else {
+    let Got::Bytes(n) = files::read(b"book.bin", b"sweep: cannot read book.bin", &mut book) else {
         return;
     };
     read_image(&book[..n]);

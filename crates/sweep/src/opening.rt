@@ -8,6 +8,7 @@ ghost use Rattle.sweep.specs.Program.{imageLimit, opening, openingOf};
 use book::Numbered;
 use book::Reading;
 use book::Totals;
+use image::Swept;
 
 // How many bytes an image may have.
 pub const LIMIT: usize = 65536;
@@ -28,10 +29,7 @@ pub fn judge(book: &[u8], image: &[u8]) -> Opening
         Reading::Refused(why) => Opening::Refused(why.numbered()),
         Reading::Accepted(totals) => {
             if LIMIT < image.len() {
-                return Opening::Refused(Numbered {
-                    number: 8,
-                    value: LIMIT,
-                });
+                return Opening::Refused(Swept::TooLong(LIMIT).numbered());
             }
             Opening::Sweep(totals)
         }

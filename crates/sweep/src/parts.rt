@@ -8,11 +8,12 @@ ghost use Rattle.image.specs.Rule5.{tokensOf};
 ghost use Rattle.image.specs.Results.{sweptOf};
 ghost use Rattle.listing.specs.Parts.{maxHits, partFrom, partTo};
 ghost use Rattle.sweep.specs.Program.{imageLimit, Known, Listing};
-use crate::lines::Line;
+use crate::numbers;
+use crate::numbers::wide;
 use crate::own;
 use crate::pen::Pen;
 use crate::pen::ROOM;
-use crate::pen::wide;
+use book::Totals;
 use image::Found;
 use image::Swept;
 
@@ -82,15 +83,15 @@ fn passed(ends: &[u32], hits: usize, upto: usize) -> usize
 fn sweep(
     book: &[u8],
     image: &[u8],
-    longest: usize,
+    totals: Totals,
     at: usize,
     ends: &mut [u32],
     tokens: &mut [u32],
 ) -> Part
-    requires { ⌜ Known (now book) longest × (at < length (now image)) × (maxHits ≤ length (now ends)) × (maxHits ≤ length (now tokens)) ⌝ }
+    requires { ⌜ Known (now book) totals × (at < length (now image)) × (maxHits ≤ length (now ends)) × (maxHits ≤ length (now tokens)) ⌝ }
     ensures { λ r. ⌜ Listing (tokensOf (now (book .entry))) (now (image .entry)) at r (now (ends .exit)) (now (tokens .exit)) ⌝ }
 {
-    let from = begin(longest, at);
+    let from = begin(totals.longest, at);
     let to = end(image.len(), from);
     let hits = number(own::sweep(book, &image[from..to], ends, tokens));
     let before = passed(ends, hits, at - from);
@@ -106,21 +107,20 @@ fn sweep(
 pub fn list(
     book: &[u8],
     image: &[u8],
-    known: usize,
-    longest: usize,
+    totals: Totals,
     found: Found,
     ends: &mut [u32],
     tokens: &mut [u32],
 )
-    requires { ⌜ Known (now book) longest × (length (now image) ≤ imageLimit) × (maxHits ≤ length (now ends)) × (maxHits ≤ length (now tokens)) ⌝ }
+    requires { ⌜ Known (now book) totals × (length (now image) ≤ imageLimit) × (maxHits ≤ length (now ends)) × (maxHits ≤ length (now tokens)) ⌝ }
 {
     let mut out = [0u8; ROOM];
-    let mut pen = Pen::new().line(&mut out, Line::Image(image.len(), known));
+    let mut pen = Pen::new().line(&mut out, numbers::first_line(image, totals));
     let mut at = 0;
     while at < image.len() {
-        let p = sweep(book, image, longest, at, ends, tokens);
+        let p = sweep(book, image, totals, at, ends, tokens);
         pen = pen.hits(&mut out, p.from, p.before, p.hits, ends, tokens);
         at = p.to;
     }
-    pen.end(&mut out, Line::End(found.hits, found.fetched))
+    pen.end(&mut out, numbers::last_line(found))
 }

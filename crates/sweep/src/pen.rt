@@ -1,14 +1,17 @@
 // The lines wait in a buffer, so that few writes are made.
-ghost use Prim.Native.Nat.{_≤_, _<_};
+ghost use Prim.Native.Nat.{_≤_};
 ghost use mathlib.Core.Path.{_≡_};
+ghost use mathlib.Core.Bool.{false};
 ghost use mathlib.Core.List.{_++_};
 ghost use lib.ListN.{length, take};
-ghost use Rattle.sweep.specs.Lines.{bytesOf, Ready, waiting};
+ghost use Rattle.sweep.specs.Lines.{lineBytes, Ready, waiting};
 ghost use Rattle.sweep.specs.Program.{imageLimit};
 use crate::lines;
 use crate::lines::LONGEST;
 use crate::lines::Line;
+use crate::numbers;
 use book::Numbered;
+use book::Totals;
 use image::Found;
 
 // How many bytes the buffer has room for.
@@ -34,7 +37,7 @@ impl Pen {
     // Writes what waits.
     fn flush(self, out: &[u8]) -> Pen
         requires { ⌜ self .used ≤ length (now out) ⌝ }
-        ensures { λ r. ⌜ r .used ≡ 0 ⌝ }
+        ensures { λ r. ⌜ (r .used ≡ 0) × (self .well ≡ false → r .well ≡ false) ⌝ }
     {
         let n = self.used;
         if !self.well {
@@ -52,7 +55,7 @@ impl Pen {
     // Where there is no room for a line what waits is written.
     fn room(self, out: &[u8]) -> Pen
         requires { ⌜ self .used ≤ length (now out) ⌝ }
-        ensures { λ r. ⌜ r .used ≡ waiting (self .used) (length (now (out .entry))) ⌝ }
+        ensures { λ r. ⌜ (r .used ≡ waiting (self .used) (length (now (out .entry)))) × (self .well ≡ false → r .well ≡ false) ⌝ }
     {
         if out.len() - self.used < LONGEST {
             return self.flush(out);
@@ -64,7 +67,8 @@ impl Pen {
     pub fn line(self, out: &mut [u8], line: Line) -> Pen
         requires { ⌜ Ready self (now out) ⌝ }
         ensures { λ r. ⌜ Ready r (now (out .exit)) × (take (r .used) (now (out .exit))
-            ≡ take (waiting (self .used) (length (now (out .entry)))) (now (out .entry)) ++ bytesOf line) ⌝ }
+            ≡ take (waiting (self .used) (length (now (out .entry)))) (now (out .entry)) ++ lineBytes line)
+            × (self .well ≡ false → r .well ≡ false) ⌝ }
     {
         let pen = self.room(out);
         let at = pen.used;
@@ -85,13 +89,12 @@ impl Pen {
         tokens: &[u32],
     ) -> Pen
         requires { ⌜ Ready self (now out) × (from ≤ imageLimit) ⌝ }
-        ensures { λ r. ⌜ Ready r (now (out .exit)) ⌝ }
+        ensures { λ r. ⌜ Ready r (now (out .exit)) × (self .well ≡ false → r .well ≡ false) ⌝ }
     {
         let mut pen = self;
         let mut i = first;
         while i < last {
-            let end = from + entry(ends, i);
-            pen = pen.line(out, Line::Hit(end, entry(tokens, i)));
+            pen = pen.line(out, numbers::hit_line(from, ends, tokens, i));
             i += 1;
         }
         pen
@@ -115,33 +118,16 @@ impl Pen {
     }
 }
 
-pub fn wide(x: u32) -> usize
-    ensures { λ r. ⌜ (r ≡ x) × (r < 4294967296) ⌝ }
-{
-    x as usize
-}
-
-// An entry of a hit buffer; all hits that are listed have one.
-fn entry(buffer: &[u32], at: usize) -> usize
-    ensures { λ r. ⌜ r < 4294967296 ⌝ }
-{
-    if at < buffer.len() {
-        wide(buffer[at])
-    } else {
-        0
-    }
-}
-
 // A refusal is the only line.
 pub fn refused(why: Numbered) {
     let mut out = [0u8; LONGEST];
-    Pen::new().end(&mut out, Line::Refused(why.number, why.value))
+    Pen::new().end(&mut out, numbers::refused_line(why))
 }
 
 // The lines of a sweep whose hits are all in the buffers.
-pub fn whole(image: usize, known: usize, found: Found, ends: &[u32], tokens: &[u32]) {
+pub fn whole(image: &[u8], totals: Totals, found: Found, ends: &[u32], tokens: &[u32]) {
     let mut out = [0u8; ROOM];
-    let pen = Pen::new().line(&mut out, Line::Image(image, known));
+    let pen = Pen::new().line(&mut out, numbers::first_line(image, totals));
     let last = pen.hits(&mut out, 0, 0, found.hits, ends, tokens);
-    last.end(&mut out, Line::End(found.hits, found.fetched))
+    last.end(&mut out, numbers::last_line(found))
 }

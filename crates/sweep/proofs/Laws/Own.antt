@@ -7,9 +7,10 @@ use mathlib.Core.List.{List}
 use borrow.Author.Tests.{le-ltb}
 use lib.Dec.{ltb}
 use lib.ListN.{length}
-use Rattle.rules.specs.Tokens.{total, longestOf}
-use Rattle.book.specs.Book.{Verdict, accepted, refused, Totals, summary, readBook, maxImage}
-use Rattle.book.specs.Answers.{refusalOf}
+use Rattle.rules.specs.Tokens.{total}
+use Rattle.book.specs.Book.{Verdict, accepted, refused, totalsOf, summary, readBook, maxImage}
+use Rattle.book.specs.Answers.{refusalOf, totalled}
+use Rattle.book.specs.declared.Totals.{Totals as Sums}
 use Rattle.book.specs.declared.Refusal.{Refusal}
 use Rattle.book.specs.declared.Refusal.the-variants.{Unfinished, UnknownKind, Trailing, Repeat, OverLimits, NoToken}
 use Rattle.book.specs.Laws.Accepted.{accepted-fit}
@@ -45,11 +46,15 @@ module _ (book image : List ℕ) (t : Tables) (ends numbers : List ℕ) (read : 
       record { answer = ap (λ s. s .answer) q; fetched = ap (λ s. s .fetched) q; in-ends = ap (λ s. s .ends) q; in-tokens = ap (λ s. s .tokens) q }
 
 -- What reading tells of a book that is accepted.
-pub known : (book : List ℕ) (totals : Totals) → accepted totals ≡ summary (readBook book) → Known book (totals .longest)
+pub known : (book : List ℕ) (totals : Sums) → accepted (totalled totals) ≡ summary (readBook book) → Known book totals
 known book totals e =
-    let s = summed book totals e in
+    let s = summed book (totalled totals) e in
     let t : tokensOf book ≡ s .tokens = ap tokensIn (s .read) in
-    record { read = s .read ∙ ap accepted (sym t); long = ap (λ a. a .longest) (s .sums) ∙ ap longestOf (sym t) }
+    let sums = s .sums ∙ ap totalsOf (sym t) in
+    record {
+      read = s .read ∙ ap accepted (sym t);
+      sums = record { count = ap (λ a. a .tokens) sums; bodies = ap (λ a. a .bodies) sums; shortest = ap (λ a. a .shortest) sums; longest = ap (λ a. a .longest) sums };
+    }
 
 -- Of the refusals it answers 12 alone.
 twelve-by : (k v n : ℕ) (b : Bool) → _≡_ {A = Verdict ℕ} (refused k v) (elim b [ true ↦ refused 12 n | false ↦ accepted n ]) → k ≡ 12

@@ -10,6 +10,7 @@ use lib.Seq.{take-all, take-at}
 use Rattle.rules.specs.Sweep.{Ordered, further}
 use Rattle.rules.specs.Laws.Exact.{happens-exact}
 use Rattle.book.specs.Book.{accepted}
+use Rattle.book.specs.declared.Totals.{Totals as Sums}
 use Rattle.book.specs.Laws.Accepted.{accepted-setting, accepted-longest}
 use Rattle.image.specs.declared.Swept.{Swept}
 use Rattle.whole.specs.Image.{room, hitsOf, counted, noted}
@@ -62,12 +63,12 @@ pub room-enough : {n : ℕ} → n ≡ 262144 → maxHits ≤ n
 room-enough e = omega arith
 
 -- A part that goes on from `at`.
-module _ (book image : List ℕ) (longest at : ℕ) (known : Known book longest) (inside : at < length image) where
+module _ (book image : List ℕ) (totals : Sums) (at : ℕ) (known : Known book totals) (inside : at < length image) where
   abbrev ts : List (List ℕ)
   ts = tokensOf book
 
-  pub longest-some : 1 ≤ longest
-  longest-some = omega (arith, known .long, accepted-longest book ts (known .read))
+  pub longest-some : 1 ≤ totals .longest
+  longest-some = omega (arith, known .sums .longest, accepted-longest book ts (known .read))
 
   pub goes-on : (at < toAt ts image at) × (toAt ts image at ≤ length image) × (fromAt ts image at ≤ at)
   goes-on = let l = accepted-longest book ts (known .read) in (omega arith, omega arith, omega arith)
@@ -76,11 +77,11 @@ module _ (book image : List ℕ) (longest at : ℕ) (known : Known book longest)
   part-short = simp (length-take, length-drop) (omega arith)
 
   -- it begins at `from` and ends at `to`, and the buffers, as lent and as left, have its hits
-  module _ (from to : ℕ) (begins : from ≡ partFrom longest at) (ends-at : to ≡ partTo (length image) from)
+  module _ (from to : ℕ) (begins : from ≡ partFrom (totals .longest) at) (ends-at : to ≡ partTo (length image) from)
       (answer : Swept) (ends numbers ends′ numbers′ : List ℕ) (room-ends : maxHits ≤ length ends) (room-numbers : maxHits ≤ length numbers)
       (f : Answered book (between from to image) answer ends numbers ends′ numbers′) (hits : ℕ) (number : (n : ℕ) → sweptOf answer ≡ accepted n → hits ≡ n) where
     from-is : from ≡ fromAt ts image at
-    from-is = begins ∙ ap (λ d. partFrom d at) (known .long)
+    from-is = begins ∙ ap (λ d. partFrom d at) (known .sums .longest)
 
     to-is : to ≡ toAt ts image at
     to-is = ends-at ∙ ap (partTo (length image)) from-is

@@ -15,7 +15,7 @@ unfolding opening
 sweep-requires c κs = let a = c .before .before .before .before .before .before .args in
     let t = c .before .totals .given in
     let s = sweeps (summary (readBook (a .book .now))) (totalled (t .0 .0)) (length (a .image .now)) (ap openingOf (sym (t .1)) ∙ c .before .before .before .judge .ensures .0) in
-    (known (a .book .now) (totalled (t .0 .0)) (s .0), s .1)
+    (known (a .book .now) (t .0 .0) (s .0), s .1)
 
 pub run-spec : {M : Type 1} → statement M
 run-spec =

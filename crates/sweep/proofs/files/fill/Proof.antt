@@ -1,9 +1,11 @@
 -- `sweep::files::fill` meets its contract and ends: each read goes on, and the buffer keeps its length.
 use Prim.Native.Nat.{_-_, _≤_}
 use native.Mathlib.Omega.{arith}
-use mathlib.Core.Path.{_≡_}
+use mathlib.Core.Path.{_≡_, sym, _∙_}
 use lib.ListN.{length}
-use Rattle.sweep.proofs.Laws.Files.{counts}
+use mir.Syntax.{w64}
+use mir.Val.{toZ, ofZ}
+use Rattle.sweep.proofs.Laws.Files.{counts, held-over, some}
 use borrow.Author.Needs.{needs}
 use Rattle.sweep.proofs.files.fill.Statement.{statement}
 use Rattle.sweep.proofs.files.fill.Tie as tie
@@ -15,13 +17,18 @@ abbrev μ-loop : tie.MeasureT-loop
 μ-loop file buffer₀ done₀ buffer done = length buffer - done
 
 returns : tie.Need-returns Inv-loop μ-loop
-returns c = c .failure .ensures _
+returns c = let got = toZ w64 (ofZ w64 (c .before .before .before .before .before .before .before .read .result)) in
+    let e = sym (c .before .before .before .after .ensures) ∙ c .before .end .given .1 in
+    held-over got (c .before .before .before .before .before .before .before .before .before .before .loop .done) (c .before .before .before .before .if1 .folder) e _ (omega arith)
+
+loop-less : tie.Need-loop-less Inv-loop μ-loop
+loop-less c = let got = toZ w64 (ofZ w64 (c .before .before .before .before .before .before .before .before .before .read .result)) in
+    let e = sym (c .before .before .before .before .before .after .ensures) ∙ c .before .before .before .enum-told .given .1 in
+    let s = some got (c .before .before .before .before .before .before .before .before .before .before .before .before .loop .done) (c .before .before .before .before .before .before .if1 .folder) e (c .count .ensures .1) (omega arith) in
+    omega arith
 
 returns-2 : tie.Need-returns-2 Inv-loop μ-loop
 returns-2 c = counts _ _ (omega arith)
-
-returns-3 : tie.Need-returns-3 Inv-loop μ-loop
-returns-3 c = counts _ _ (omega arith)
 
 pub fill-spec : {M : Type 1} → statement M
 fill-spec =
@@ -35,16 +42,17 @@ fill-spec =
     (λ c. search needs)
     (λ c κs. search needs)
     (λ c κs. search needs)
+    (λ c κs. search needs)
+    (λ c. search needs)
     (λ c. search needs)
     returns
     (λ c. search needs)
     (λ c. search needs)
     (λ c. search needs)
+    (λ c. search needs)
     (λ c κs. search needs)
     (λ c. search needs)
-    returns-2
+    loop-less
     (λ c. search needs)
     (λ c. search needs)
-    (λ c. search needs)
-    (λ c. search needs)
-    returns-3)
+    returns-2)

@@ -10,9 +10,11 @@ use Rattle.sweep.proofs.opening.judge.Statement.{statement}
 use Rattle.sweep.proofs.opening.judge.Tie as tie
 
 returns : tie.Need-returns
-returns c = let a = c .before .before .before .before .before .before .before .args in
-    let t = c .before .before .totals .given in
-    judged _ (a .book .now) (a .image .now) (over (a .book .now) (a .image .now) (totalled (t .0 .0)) (ap verdictOf (sym (t .1)) ∙ c .before .before .before .before .read .ensures) (c .if1 .taken))
+returns c = let a = c .before .before .before .before .before .before .before .before .args in
+    let t = c .before .before .before .totals .given in
+    let n = c .numbered2 in
+    let e = over (a .book .now) (a .image .now) (totalled (t .0 .0)) (ap verdictOf (sym (t .1)) ∙ c .before .before .before .before .before .read .ensures) (c .before .if1 .taken) in
+    judged _ (a .book .now) (a .image .now) (ap (λ k. refused k (n .result .value)) (n .ensures .0) ∙ ap (refused 8) (n .ensures .1) ∙ e)
 
 returns-2 : tie.Need-returns-2
 unfolding opening opened
@@ -36,6 +38,7 @@ judge-spec =
     (λ c. search needs)
     (λ c κs. search needs)
     (λ c. search needs)
+    (λ c κs. search needs)
     returns
     returns-2
     returns-3)

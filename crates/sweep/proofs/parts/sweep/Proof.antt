@@ -6,13 +6,13 @@ use Rattle.sweep.proofs.parts.sweep.Tie as tie
 
 begin-requires : tie.Need-begin-requires
 begin-requires c κs = let s = c .before .before .before .before in
-    longest-some (s .args .book .now) (s .args .image .now) (s .args .longest) (s .args .at) (s .pre .0) (s .pre .1)
+    longest-some (s .args .book .now) (s .args .image .now) (s .args .totals) (s .args .at) (s .pre .0) (s .pre .1)
 
 passed-requires : tie.Need-passed-requires
 passed-requires c κs = let s = c .before .before .before .before .before .before .before .before .before .before .before .before .before .before .before .before in
     let a = s .args in
     let k = c .before .before .before .before .before .before .sweep in
-    hits-fit (a .book .now) (a .image .now) (a .longest) (a .at) (s .pre .0) (s .pre .1) _ _ (c .before .before .before .before .before .before .before .before .before .before .before .begin .ensures) (c .before .before .before .before .before .before .before .before .before .before .end .ensures)
+    hits-fit (a .book .now) (a .image .now) (a .totals) (a .at) (s .pre .0) (s .pre .1) _ _ (c .before .before .before .before .before .before .before .before .before .before .before .begin .ensures) (c .before .before .before .before .before .before .before .before .before .before .end .ensures)
     (k .result) (a .ends .now) (a .tokens .now) _ _ (s .pre .2) (s .pre .3) (k .ensures) _ (c .before .number .ensures) .0
 
 returns : tie.Need-returns
@@ -20,7 +20,7 @@ returns c = let s = c .before .before .before .before .before .before .before .b
     let a = s .args in
     let k = c .before .before .before .before .before .before .before .sweep in
     let p = c .passed .ensures in
-    listing (a .book .now) (a .image .now) (a .longest) (a .at) (s .pre .0) (s .pre .1) _ _ (c .before .before .before .before .before .before .before .before .before .before .before .before .begin .ensures) (c .before .before .before .before .before .before .before .before .before .before .before .end .ensures)
+    listing (a .book .now) (a .image .now) (a .totals) (a .at) (s .pre .0) (s .pre .1) _ _ (c .before .before .before .before .before .before .before .before .before .before .before .before .begin .ensures) (c .before .before .before .before .before .before .before .before .before .before .before .end .ensures)
     (k .result) (a .ends .now) (a .tokens .now) _ _ (s .pre .2) (s .pre .3) (k .ensures) _ (c .before .before .number .ensures)
     _ (p .0) (p .1) (p .2)
 

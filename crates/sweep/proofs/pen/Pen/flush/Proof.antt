@@ -1,6 +1,8 @@
 -- `sweep::pen::Pen::flush` is safe: the part written has the length asked for.
 use native.Mathlib.Omega.{arith}
+use mathlib.Core.Path.{refl}
 use lib.ListN.{length-take}
+use Rattle.sweep.proofs.Laws.Pen.{not-yet}
 use borrow.Author.Needs.{needs}
 use Rattle.sweep.proofs.pen.Pen.flush.Statement.{statement}
 use Rattle.sweep.proofs.pen.Pen.flush.Tie as tie
@@ -15,7 +17,7 @@ write-all-requires : tie.Need-write-all-requires
 write-all-requires c κs = search needs
 
 returns-2 : tie.Need-returns-2
-returns-2 c = search needs
+returns-2 c = (refl, not-yet (c .before .before .before .before .before .args .self .well) (c .before .before .if1 .left))
 
 pub flush-spec : {M : Type 1} → statement M
 flush-spec = tie.close (tie.spec returns slice-aggregate-write-all write-all-requires returns-2)

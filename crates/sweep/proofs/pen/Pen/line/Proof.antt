@@ -3,7 +3,7 @@ use native.Mathlib.Omega.{arith}
 use mathlib.Core.Path.{ap, _∙_}
 use mathlib.Core.List.{_++_}
 use lib.ListN.{length, take}
-use Rattle.sweep.specs.Lines.{bytesOf}
+use Rattle.sweep.specs.Lines.{lineBytes}
 use Rattle.sweep.proofs.Laws.Pen.{made}
 use borrow.Author.Needs.{needs}
 use Rattle.sweep.proofs.pen.Pen.line.Statement.{statement}
@@ -14,7 +14,7 @@ room-requires c κs = search needs
 
 put-requires : tie.Need-put-requires
 put-requires c κs = let s = c .before .before .before .before in
-    omega (arith, c .before .room .ensures, made (s .args .self .used) (length (s .args .out .now)) (s .pre .1))
+    omega (arith, c .before .room .ensures .0, made (s .args .self .used) (length (s .args .out .now)) (s .pre .1))
 
 same-length : tie.Need-same-length
 same-length c = search needs
@@ -23,7 +23,8 @@ returns : tie.Need-returns
 returns c = let s = c .before .before .before .before .before .before .before in
     let p = c .before .before .put in (
       (p .ensures .0, omega (arith, s .pre .1)),
-      p .ensures .1 ∙ ap (λ k. take k (s .args .out .now) ++ bytesOf (s .args .line)) (c .before .before .before .before .room .ensures),
+      p .ensures .1 ∙ ap (λ k. take k (s .args .out .now) ++ lineBytes (s .args .line)) (c .before .before .before .before .room .ensures .0),
+      c .before .before .before .before .room .ensures .1,
     )
 
 pub line-spec : {M : Type 1} → statement M

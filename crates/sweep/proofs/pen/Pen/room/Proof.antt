@@ -12,10 +12,10 @@ flush-requires : tie.Need-flush-requires
 flush-requires c κs = search needs
 
 returns : tie.Need-returns
-returns c = c .flush .ensures ∙ sym (full (c .before .before .before .before .args .self .used) _ (c .before .if1 .taken))
+returns c = (c .flush .ensures .0 ∙ sym (full (c .before .before .before .before .args .self .used) _ (c .before .if1 .taken)), c .flush .ensures .1)
 
 returns-2 : tie.Need-returns-2
-returns-2 c = sym (free (c .before .before .before .args .self .used) _ (c .if1 .left))
+returns-2 c = (sym (free (c .before .before .before .args .self .used) _ (c .if1 .left)), λ h. h)
 
 pub room-spec : {M : Type 1} → statement M
 room-spec = tie.close (tie.spec sub-if1 flush-requires returns returns-2)
