@@ -6,6 +6,8 @@ use mathlib.Core.List.{List, [], _∷_}
 use lib.Dec.{eqb}
 use lib.ListN.{length, replicate}
 use Rattle.book.specs.Book.{Reading, accepted, refused, refusalIn, readFrom, readBook}
+use Rattle.book.specs.declared.Refusal.the-variants.{Unfinished, UnknownKind, Trailing, Repeat, OverLimits, NoToken}
+use Rattle.book.specs.Answers.{refusalOf}
 
 -- A book that is read on from its first byte, with the tokens before it, and the refusal.
 record Sample : Type 0 where
@@ -79,3 +81,8 @@ refused-told = refl
 
 accepted-told : refusalIn (readBook (1 ∷ 97 ∷ 0 ∷ [])) ≡ (0, 0)
 accepted-told = refl
+
+-- Each case of the enum has its number.
+cases-told : refusalOf (Unfinished 9) ∷ refusalOf (UnknownKind 9) ∷ refusalOf (Trailing 9) ∷ refusalOf (Repeat 9) ∷ refusalOf (OverLimits 9) ∷ refusalOf NoToken ∷ []
+    ≡ (1, 9) ∷ (2, 9) ∷ (3, 9) ∷ (4, 9) ∷ (5, 9) ∷ (6, 0) ∷ []
+cases-told = refl

@@ -41,33 +41,35 @@ pub struct Numbered {
     pub value: usize,
 }
 
-impl Numbered {
-    // A row of the table.
-    pub fn row(number: usize, value: usize) -> Numbered
-        ensures { λ r. ⌜ (r .number ≡ number) × (r .value ≡ value) ⌝ }
-    {
-        Numbered { number, value }
-    }
-
-    // No refusal.
-    pub fn none() -> Numbered
-        ensures { λ r. ⌜ (r .number ≡ 0) × (r .value ≡ 0) ⌝ }
-    {
-        Numbered::row(0, 0)
-    }
-}
-
 impl Refusal {
     pub fn numbered(self) -> Numbered
         ensures { λ r. ⌜ (r .number ≡ refusalOf self .0) × (r .value ≡ refusalOf self .1) ⌝ }
     {
         match self {
-            Refusal::Unfinished(at) => Numbered::row(1, at),
-            Refusal::UnknownKind(at) => Numbered::row(2, at),
-            Refusal::Trailing(at) => Numbered::row(3, at),
-            Refusal::Repeat(at) => Numbered::row(4, at),
-            Refusal::OverLimits(at) => Numbered::row(5, at),
-            Refusal::NoToken => Numbered::row(6, 0),
+            Refusal::Unfinished(at) => Numbered {
+                number: 1,
+                value: at,
+            },
+            Refusal::UnknownKind(at) => Numbered {
+                number: 2,
+                value: at,
+            },
+            Refusal::Trailing(at) => Numbered {
+                number: 3,
+                value: at,
+            },
+            Refusal::Repeat(at) => Numbered {
+                number: 4,
+                value: at,
+            },
+            Refusal::OverLimits(at) => Numbered {
+                number: 5,
+                value: at,
+            },
+            Refusal::NoToken => Numbered {
+                number: 6,
+                value: 0,
+            },
         }
     }
 }

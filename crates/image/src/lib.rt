@@ -41,11 +41,23 @@ impl Swept {
         ensures { λ r. ⌜ (r .number ≡ refusalIn (sweptOf self) .0) × (r .value ≡ refusalIn (sweptOf self) .1) ⌝ }
     {
         match self {
-            Swept::Whole(_) => Numbered::none(),
+            Swept::Whole(_) => Numbered {
+                number: 0,
+                value: 0,
+            },
             Swept::Unread(why) => why.numbered(),
-            Swept::TooShort(room) => Numbered::row(7, room),
-            Swept::TooLong(most) => Numbered::row(8, most),
-            Swept::TooMany(found) => Numbered::row(12, found.hits),
+            Swept::TooShort(room) => Numbered {
+                number: 7,
+                value: room,
+            },
+            Swept::TooLong(most) => Numbered {
+                number: 8,
+                value: most,
+            },
+            Swept::TooMany(found) => Numbered {
+                number: 12,
+                value: found.hits,
+            },
         }
     }
 }

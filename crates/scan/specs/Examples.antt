@@ -12,7 +12,10 @@ use Rattle.tables.specs.Tables.{Tables}
 use Rattle.scan.specs.declared.Scan.{Scan}
 use Rattle.scan.specs.State.{laid, inRange}
 use Rattle.scan.specs.Start.{started, start}
+use Rattle.scan.specs.declared.Answer.the-variants.{Broken, OutOfRange, OutOfTurn}
+use Rattle.scan.specs.declared.Opening.the-variants.{TooLong}
 use Rattle.scan.specs.Calls.{fetch, over, refused, stepRefusal, agree, judged, carryOn}
+use Rattle.scan.specs.Results.{verdictOf, answerOf}
 
 count : ℕ → ℕ → List ℕ
 count from zero = []
@@ -190,3 +193,10 @@ refused-told = refl
 
 fetch-told : stepRefusal (fetch 24) ≡ (0, 0)
 fetch-told = refl
+
+-- Each case of the enums has its number.
+cases-told : answerOf (Broken 7) ∷ answerOf OutOfRange ∷ answerOf OutOfTurn ∷ [] ≡ refused 9 7 ∷ refused 10 0 ∷ refused 11 0 ∷ []
+cases-told = refl
+
+opening-told : verdictOf (started 0 0 0) (TooLong 7) ≡ unstarted 8 7
+opening-told = refl

@@ -55,8 +55,14 @@ impl Opening {
         ensures { λ r. ⌜ ((s : Scan) → (r .number ≡ refusalIn (verdictOf s self) .0) × (r .value ≡ refusalIn (verdictOf s self) .1)) ⌝ }
     {
         match self {
-            Opening::Ready => Numbered::none(),
-            Opening::TooLong(most) => Numbered::row(8, most),
+            Opening::Ready => Numbered {
+                number: 0,
+                value: 0,
+            },
+            Opening::TooLong(most) => Numbered {
+                number: 8,
+                value: most,
+            },
         }
     }
 }
@@ -82,12 +88,30 @@ impl Answer {
         ensures { λ r. ⌜ (r .number ≡ stepRefusal (answerOf self) .0) × (r .value ≡ stepRefusal (answerOf self) .1) ⌝ }
     {
         match self {
-            Answer::Fetch(_) => Numbered::none(),
-            Answer::Hit(_, _) => Numbered::none(),
-            Answer::Done => Numbered::none(),
-            Answer::Broken(node) => Numbered::row(9, node),
-            Answer::OutOfRange => Numbered::row(10, 0),
-            Answer::OutOfTurn => Numbered::row(11, 0),
+            Answer::Fetch(_) => Numbered {
+                number: 0,
+                value: 0,
+            },
+            Answer::Hit(_, _) => Numbered {
+                number: 0,
+                value: 0,
+            },
+            Answer::Done => Numbered {
+                number: 0,
+                value: 0,
+            },
+            Answer::Broken(node) => Numbered {
+                number: 9,
+                value: node,
+            },
+            Answer::OutOfRange => Numbered {
+                number: 10,
+                value: 0,
+            },
+            Answer::OutOfTurn => Numbered {
+                number: 11,
+                value: 0,
+            },
         }
     }
 }

@@ -36,8 +36,14 @@ impl Tested {
         ensures { λ r. ⌜ (r .number ≡ refusalIn (testedOf self) .0) × (r .value ≡ refusalIn (testedOf self) .1) ⌝ }
     {
         match self {
-            Tested::Sound => Numbered::none(),
-            Tested::Breaks(node) => Numbered::row(9, node),
+            Tested::Sound => Numbered {
+                number: 0,
+                value: 0,
+            },
+            Tested::Breaks(node) => Numbered {
+                number: 9,
+                value: node,
+            },
         }
     }
 }
@@ -61,9 +67,15 @@ impl Building {
         ensures { λ r. ⌜ (r .number ≡ refusalIn (answerOf self) .0) × (r .value ≡ refusalIn (answerOf self) .1) ⌝ }
     {
         match self {
-            Building::Made(_) => Numbered::none(),
+            Building::Made(_) => Numbered {
+                number: 0,
+                value: 0,
+            },
             Building::Unread(why) => why.numbered(),
-            Building::TooShort(room) => Numbered::row(7, room),
+            Building::TooShort(room) => Numbered {
+                number: 7,
+                value: room,
+            },
         }
     }
 }
