@@ -1,10 +1,13 @@
--- Samples of parts: where they begin and end, and what is listed of them.
+-- Samples of parts: where they begin and end, and what is listed of them; of lines and how they wait; and of which line comes.
 use Prim.Native.Nat.{ℕ}
 use mathlib.Core.Path.{_≡_, refl}
 use mathlib.Core.List.{List, [], _∷_}
 use Rattle.rules.specs.Rules.{trace}
 use Rattle.rules.specs.Sweep.{happens}
+use Rattle.book.specs.Book.{accepted, refused}
 use Rattle.listing.specs.Parts.{maxPart, partFrom, partTo, listedAt, listedFrom}
+use Rattle.listing.specs.Lines.{ascii, decimal, imageLine, hitLine, endLine, refusedLine, waiting}
+use Rattle.listing.specs.Opening.{opened, opening}
 
 -- A part begins D − 1 bytes before what is not listed yet, or at the image's start.
 begins-late : partFrom 5 10 ≡ 6
@@ -34,3 +37,66 @@ goes-on = refl
 lists-all : listedFrom tokens image 5 0 ≡ (1, 1) ∷ (3, 1) ∷ (3, 2) ∷ (5, 1) ∷ (5, 2) ∷ []
 unfolding happens trace
 lists-all = refl
+
+-- The bytes of a text.
+text-right : ascii "az AZ 09\n" ≡ 97 ∷ 122 ∷ 32 ∷ 65 ∷ 90 ∷ 32 ∷ 48 ∷ 57 ∷ 10 ∷ []
+text-right = refl
+
+-- Numbers: as many digits as there are, the first first.
+zero-right : decimal 0 ≡ 48 ∷ []
+zero-right = refl
+
+one-digit : decimal 9 ≡ ascii "9"
+one-digit = refl
+
+two-digits : decimal 10 ≡ ascii "10"
+two-digits = refl
+
+three-digits : decimal 120 ≡ ascii "120"
+three-digits = refl
+
+most-digits : decimal 18446744073709551615 ≡ ascii "18446744073709551615"
+most-digits = refl
+
+-- The four lines.
+image-line : imageLine 8 1 ≡ ascii "image 8 tokens 1\n"
+image-line = refl
+
+hit-line : hitLine 8 1 ≡ ascii "hit 8 1\n"
+hit-line = refl
+
+end-line : endLine 1 7 ≡ ascii "end 1 7\n"
+end-line = refl
+
+empty-line : endLine 0 100 ≡ ascii "end 0 100\n"
+empty-line = refl
+
+refused-line : refusedLine 8 65536 ≡ ascii "refused 8 65536\n"
+refused-line = refl
+
+-- Bytes wait on where 64 are left for a line, and are written where 63 are.
+room-left : waiting 36 100 ≡ 36
+room-left = refl
+
+no-room-left : waiting 37 100 ≡ 0
+no-room-left = refl
+
+-- The token "a": a book, and the same with its end missing.
+abbrev book : List ℕ
+book = 1 ∷ 97 ∷ 0 ∷ []
+
+abbrev cut : List ℕ
+cut = 1 ∷ 97 ∷ []
+
+-- 1 comes before 8, 8 where the image is a byte too long, and neither where it is not.
+book-first : opening cut 65537 ≡ refused 1 2
+unfolding opening opened
+book-first = refl
+
+image-second : opening book 65537 ≡ refused 8 65536
+unfolding opening opened
+image-second = refl
+
+sweep-last : opening book 65536 ≡ accepted (record { tokens = 1; bodies = 1; shortest = 1; longest = 1 })
+unfolding opening opened
+sweep-last = refl

@@ -1,1 +1,1 @@
-// The hits of an image, listed by parts of it: definitions and laws, no code.
+// What the program lists: the hits of an image by parts of it, and its lines; definitions and laws, no code.

@@ -4,12 +4,12 @@ use Prim.Native.Nat.{ℕ, zero, suc, _≤_}
 use mathlib.Core.Path.{_≡_}
 use mathlib.Core.Bool.{Bool, true, false}
 use mathlib.Core.List.{List, [], _∷_, map}
-use lib.Dec.{ltb, eqb}
+use lib.Dec.{eqb}
 use lib.IntN.{ℤ, pos, negsuc}
 use lib.ListN.{length, take, drop}
 use Rattle.io.specs.Counts.{Counts}
 use Rattle.rules.specs.Sweep.{further}
-use Rattle.book.specs.Book.{Verdict, accepted, refused, Totals, readBook, summary}
+use Rattle.book.specs.Book.{Verdict, accepted, refused, Totals, readBook}
 use Rattle.book.specs.Answers.{Amounts, totalled}
 use Rattle.book.specs.declared.Totals.{Totals as Sums}
 use Rattle.image.specs.declared.Swept.{Swept}
@@ -17,6 +17,8 @@ use Rattle.whole.specs.Image.{room, hitsOf, fetchesOf, counted, noted}
 use Rattle.image.specs.Results.{sweptOf, fetchedOf}
 use Rattle.image.specs.Rule5.{tokensOf}
 use Rattle.listing.specs.Parts.{fromAt, toAt, listedAt}
+pub use Rattle.listing.specs.Opening.{imageLimit}
+unfoldable pub use Rattle.listing.specs.Opening.{opened, opening}
 use Rattle.sweep.specs.declared.parts.Part.{Part}
 use Rattle.sweep.specs.declared.files.Got.{Got}
 use Rattle.sweep.specs.declared.files.Got.the-variants.{Bytes, Failed}
@@ -24,19 +26,6 @@ use Rattle.sweep.specs.declared.files.Next.{Next}
 use Rattle.sweep.specs.declared.files.Next.the-variants.{More, Over}
 use Rattle.sweep.specs.declared.opening.Opening.{Opening}
 use Rattle.sweep.specs.declared.opening.Opening.the-variants.{Refused, Sweep}
-
--- How many bytes an image may have.
-abbrev pub imageLimit : ℕ
-imageLimit = 65536
-
--- Which line comes, by what is read of the book and by the image's length: the book's refusal; then 8; then those of the sweep.
-unfoldable pub opened : Verdict Totals → ℕ → Verdict Totals
-opened (refused k v) n = refused k v
-opened (accepted totals) n = elim (ltb imageLimit n) [ true ↦ refused 8 imageLimit | false ↦ accepted totals ]
-
--- Which line comes for a book and an image of n bytes.
-unfoldable pub opening : List ℕ → ℕ → Verdict Totals
-opening book n = opened (summary (readBook book)) n
 
 -- What the program judges, as a verdict.
 abbrev pub openingOf : Opening → Verdict Totals
