@@ -16,6 +16,7 @@ typedef struct {
 } told;
 
 told probe_read(const uint8_t *book, size_t book_len);
+told probe_merge(const uint8_t *first, size_t first_len, const uint8_t *second, size_t second_len, uint8_t *out, size_t out_len);
 told probe_build(const uint8_t *book, size_t book_len, TABLES(uint16_t, uint8_t));
 told probe_test(READ, size_t count);
 told probe_start(size_t *state, size_t state_len, size_t n, size_t shortest, size_t nodes);
@@ -43,9 +44,12 @@ static void make_book(size_t count, size_t size) {
     book[book_len++] = 0;
 }
 
-static void build_tables(void) { nodes = probe_build(book, book_len, LENT).numbers[0]; }
+/* What a benchmark need not use. */
+#define SHARED __attribute__((unused)) static
 
-static void test_tables(void) {
+SHARED void build_tables(void) { nodes = probe_build(book, book_len, LENT).numbers[0]; }
+
+SHARED void test_tables(void) {
     sink = probe_test(LENT, nodes).kind;
     if (sink != 1) {
         fprintf(stderr, "the built tables were refused\n");
@@ -54,7 +58,7 @@ static void test_tables(void) {
 }
 
 /* Aligned, since where a short loop lies can make it a third slower. */
-__attribute__((noinline, aligned(64))) static void pass_tables(void) {
+__attribute__((noinline, aligned(64))) SHARED void pass_tables(void) {
     uint64_t sum = 0;
     for (size_t v = 0; v < nodes; v++) sum = sum * 31 + parent[v] + label[v] + token[v] + first[v] + next[v];
     sink = sum;
@@ -67,8 +71,7 @@ static double now(void) {
 }
 
 /* The least time of each run, in ten turns, since other work on the machine slows some; short runs are timed many at once. */
-static void least(void (*const runs[])(void), double *best, size_t count) {
-    size_t times = nodes < 2000 ? 1 + 20000 / (nodes + 10) : 1;
+static void least_of(void (*const runs[])(void), double *best, size_t count, size_t times) {
     for (size_t i = 0; i < count; i++) best[i] = 1e9;
     for (size_t turn = 0; turn < 10 * count; turn++) {
         size_t i = turn % count;
@@ -80,4 +83,9 @@ static void least(void (*const runs[])(void), double *best, size_t count) {
             if (took < best[i]) best[i] = took;
         } while (now() < end);
     }
+}
+
+/* The same, over tables: the fewer nodes, the shorter are the runs. */
+SHARED void least(void (*const runs[])(void), double *best, size_t count) {
+    least_of(runs, best, count, nodes < 2000 ? 1 + 20000 / (nodes + 10) : 1);
 }

@@ -26,8 +26,8 @@
  *   8  an image over 16,777,216 bytes          that limit
  *  12  more hits than the shorter buffer holds number of all hits
  *
- * The first cause in this order is answered (at a record: 1 for a missing kind, 2, 1 for a short body, 5, 4). Refusals 9 to 11 do not
- * come from these calls.
+ * The first cause in this order is answered (at a record: 1 for a missing kind, 2, 1 for a short body, 5, 4). Other numbers do not come
+ * from these calls.
  */
 #ifndef LONNATCHI_H
 #define LONNATCHI_H

@@ -1,7 +1,9 @@
 #!/usr/bin/env python3
 """Holds tools/book.py to the proved reader: over the books of books.py `show` gives the reader's refusal, or as many tokens of these
-lengths, and `make` of what it shows is the same book. Then lists that no book can hold, and wrong uses."""
+lengths, and `make` of what it shows is the same book; over its pairs of books, and random ones, `merge` gives the book or the refusal of
+the proved merge. Then lists that no book can hold, books that can't be merged, and wrong uses."""
 import pathlib
+import random
 import subprocess
 import sys
 import tempfile
@@ -12,6 +14,9 @@ sys.path.insert(0, str(TOOL.parent))
 import book as tool
 import books
 import proved
+
+PAIRS = 700  # random ones
+
 
 def fail(*words):
     print("book tool:", *words)
@@ -29,6 +34,22 @@ def answer(book):
         return "another book is made of what is shown"
     sizes = [len(line) // 2 for line in shown.split("\n") if line and line[0] != "#"]
     return (1, len(sizes), sum(sizes), min(sizes), max(sizes))
+
+
+def merging(first, second):
+    """What `merge` says, as the proved merge tells it, and the book."""
+    try:
+        book = tool.merged(first, second, ("first", "second"))
+    except tool.Refused as why:
+        _, number, value = str(why).split(":")[0].split()
+        return (0, int(number), int(value), 0, 0), b""
+    return (1, len(book), 0, 0, 0), book
+
+
+def proved_merging(first, second):
+    out = proved.Lent(proved.BYTES, bytes(len(first) + len(second)))
+    told = proved.call("probe_merge", *(proved.Lent(proved.BYTES, x) for x in (first, second)), out)
+    return told, bytes(out.content()[: told[1]]) if told[0] == 1 else b""
 
 
 def listed(*bodies):
@@ -55,15 +76,68 @@ USES = (
     (b"", "show", 2, "required"),
     (b"", "take -", 2, "invalid choice"),
     (b"", "--help", 0, "make TOKENS.txt BOOK.bin"),
+    (b"", "--help", 0, "merge FIRST.bin SECOND.bin OUT.bin"),
+    (b"\x01a\0", "merge - - -", 2, "only one of the two books"),
+    (b"\x01a\0", "merge - nowhere.bin -", 2, "nowhere.bin: No such file"),
+    (b"\x01a\0", "merge . - -", 2, "Is a directory"),
+    (b"", "merge one.bin two.bin", 2, "required"),
+)
+
+# The books north.bin and south.bin (None: no file), the words after `merge`, the exit code, the output or a part of the error, and what
+# both.bin then holds, where `OLD` stood before.
+OLD = b"old"
+NORTH, SOUTH, WORDS = books.book_of([b"ab", b"c"]), books.book_of([b"d", b"ab", b"abc"]), "north.bin south.bin both.bin"
+BOTH, MOST = books.book_of([b"ab", b"c", b"d", b"abc"]), books.book_of(NUMBERED[:256])
+MERGES = (
+    (NORTH, SOUTH, WORDS, 0, "", BOTH),
+    (NORTH, NORTH, WORDS, 0, "", NORTH),
+    (MOST, books.book_of(NUMBERED[7:9]), WORDS, 0, "", MOST),
+    (NORTH, SOUTH, "north.bin south.bin -", 0, BOTH.decode("latin-1"), OLD),
+    (NORTH, SOUTH, "north.bin north.bin both.bin", 0, "", NORTH),
+    (NORTH, b"\x01a\0", "both.bin south.bin both.bin", 1, f"refused 2 0: both.bin, the first book: {tool.WHY[2]}\n", OLD),
+    (b"\x02ab\x02", b"", WORDS, 1, f"refused 1 3: north.bin, the first book: {tool.WHY[1]}\n", OLD),
+    (b"\x01a\x45", SOUTH, WORDS, 1, f"refused 2 2: north.bin, the first book: {tool.WHY[2]}\n", OLD),
+    (b"\x01a\0\0", SOUTH, WORDS, 1, f"refused 3 3: north.bin, the first book: {tool.WHY[3]}\n", OLD),
+    (b"\x01a\x01a\0", SOUTH, WORDS, 1, f"refused 4 2: north.bin, the first book: {tool.WHY[4]}\n", OLD),
+    (books.book_of(NUMBERED), SOUTH, WORDS, 1, f"refused 5 768: north.bin, the first book: {tool.WHY[5]}\n", OLD),
+    (b"\0", b"\0", WORDS, 1, f"refused 6 0: north.bin, the first book: {tool.WHY[6]}\n", OLD),
+    (NORTH, b"\x01a", WORDS, 1, f"refused 13 1: south.bin, the second book, is refused 1 2: {tool.WHY[1]}\n", OLD),
+    (NORTH, b"\x45", WORDS, 1, f"refused 13 2: south.bin, the second book, is refused 2 0: {tool.WHY[2]}\n", OLD),
+    (NORTH, b"\x01a\0\0", WORDS, 1, f"refused 13 3: south.bin, the second book, is refused 3 3: {tool.WHY[3]}\n", OLD),
+    (NORTH, b"\x01a\x01a\0", WORDS, 1, f"refused 13 4: south.bin, the second book, is refused 4 2: {tool.WHY[4]}\n", OLD),
+    (MOST, books.book_of(NUMBERED), WORDS, 1, f"refused 13 5: south.bin, the second book, is refused 5 768: {tool.WHY[5]}\n", OLD),
+    (NORTH, b"\0", WORDS, 1, f"refused 13 6: south.bin, the second book, is refused 6 0: {tool.WHY[6]}\n", OLD),
+    (MOST, books.book_of([NUMBERED[3], b"x", b"y"]), WORDS, 1, "refused 5 3: with the record at this place of south.bin, the second", OLD),
+    (None, SOUTH, WORDS, 2, "north.bin: No such file", OLD),
+    (NORTH, None, WORDS, 2, "south.bin: No such file", OLD),
+    (NORTH, SOUTH, "north.bin south.bin nowhere/both.bin", 2, "nowhere/both.bin: No such file", OLD),
 )
 
 
-def use(given, words, code, part):
-    with tempfile.TemporaryDirectory() as folder:
-        done = subprocess.run([TOOL, *words.split()], cwd=folder, input=given, stdout=subprocess.PIPE, stderr=subprocess.PIPE)
+def use(folder, given, words, code, part):
+    done = subprocess.run([TOOL, *words.split()], cwd=folder, input=given, stdout=subprocess.PIPE, stderr=subprocess.PIPE)
     told = done.stdout.decode("latin-1") + done.stderr.decode("latin-1")
     if done.returncode != code or part not in told or (code and told.count("\n") != 1):
         fail(f"{words!r} ended with {done.returncode}, wanted {code} and {part!r}:", told)
+    return done.stdout.decode("latin-1")
+
+
+def merge_use(folder, north, south, words, code, part, both):
+    for name, book in (("north.bin", north), ("south.bin", south), ("both.bin", OLD)):
+        if book is not None:
+            pathlib.Path(folder, name).write_bytes(book)
+    output = use(folder, b"", "merge " + words, code, part)
+    if output != ("" if code else part):
+        fail(f"'merge {words}' of {north} and {south} puts out", output)
+    left = pathlib.Path(folder, "both.bin").read_bytes()
+    if left != both:
+        fail(f"'merge {words}' of {north} and {south} leaves {left} in both.bin, wanted {both}")
+
+
+def pairs(rng):
+    yield from books.pairs()
+    for i in range(PAIRS):
+        yield books.some_pair(rng, books.SHAPES[i % len(books.SHAPES)])
 
 
 def main():
@@ -73,9 +147,18 @@ def main():
         if said != wanted:
             fail(f"book {case}: {said}, but the proved reader tells {wanted}")
         count += 1
-    for one in USES:
-        use(*one)
-    print(f"book tool: {count} books are shown as the proved reader reads them, and made again; {len(USES)} uses end as they must")
+    merged = 0
+    for case, (first, second) in enumerate(pairs(random.Random(17))):
+        said, wanted = merging(first, second), proved_merging(first, second)
+        if said != wanted:
+            fail(f"pair {case}: {said}, but the proved merge tells {wanted}")
+        merged += 1
+    for check, uses in ((use, USES), (merge_use, MERGES)):
+        for one in uses:
+            with tempfile.TemporaryDirectory() as folder:
+                check(folder, *one)
+    print(f"book tool: {count} books are shown as the proved reader reads them, and made again;", end=" ")
+    print(f"{merged} pairs are merged as the proved merge does it; {len(USES) + len(MERGES)} uses end as they must")
 
 
 if __name__ == "__main__":

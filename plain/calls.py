@@ -56,7 +56,7 @@ def lend(lists):
     return [Lent(BYTES if k == 1 else ENTRIES, entries) for k, entries in enumerate(lists)]
 
 
-# Books: reading, placing, building, testing, walking
+# Books: reading, placing, containing, building, testing, walking
 
 
 def reading_told(reading):
@@ -68,6 +68,22 @@ def reading_told(reading):
 
 def place_told(place):
     return told(3) if place == "unread" else told(2) if place is None else told(1, *place)
+
+
+def near(body):
+    """A body, and others that are almost it."""
+    changed = bytes([body[-1] ^ 1])
+    return body, body[:-1], body[1:], body[:-1] + changed, changed + body[1:], body + b"\0", body + body[-1:]
+
+
+def tried(book):
+    """Bodies that the book has, that it almost has, that stand in it elsewhere, and others."""
+    bodies = tables.whole_bodies(book)
+    for body in (*bodies[:2], *bodies[-1:]):
+        yield from near(body)
+    for at in range(min(len(book), 20)):
+        yield book[at + 1 : at + 1 + tables.body_at(book, at)]
+    yield from (b"", b"a", b"not there", book, book[1:], book[-2:], bytes(1024))
 
 
 def building(reading, lengths):
@@ -91,6 +107,8 @@ def book_case(book, lengths, i, damage, count):
         expect("probe_token", [lent, k], place_told(tables.token(book, k)))
     for at in (*range(min(len(book) + 2, 40)), FAR):
         expect("probe_body_at", [lent, at], tables.body_at(book, at))
+    for body in set(tried(book)):
+        expect("probe_contains", [lent, Lent(BYTES, body)], told(1 if tables.contains(book, body) else 2))
     wanted, lists = building(reading, lengths)
     slices = lend([[FILL] * n for n in lengths])
     expect("probe_build", [lent, *slices], wanted, enumerate(lists, 1))

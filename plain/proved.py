@@ -1,23 +1,28 @@
-"""The proved calls, from Python: the archive of the crate `probe` as a shared object. Wants gcc and target/staticlib/libprobe.a
-(`rt staticlib probe`)."""
+"""The proved calls, from Python: the archives of the crates `probe` and `gateway` as shared objects. Wants gcc, and in target/staticlib
+libprobe.a (`rt staticlib probe`) and, for the sweep of a whole image, libgateway.a (`rt staticlib gateway`)."""
 import array
 import ctypes
+import functools
 import pathlib
 import subprocess
 import sys
 import tempfile
 
-ARCHIVE = pathlib.Path(__file__).resolve().parent.parent / "target" / "staticlib" / "libprobe.a"
+ARCHIVES = pathlib.Path(__file__).resolve().parent.parent / "target" / "staticlib"
 GUARD = 4  # numbers before and behind what is lent
-BYTES, ENTRIES, NUMBERS = "B", "H", "Q"
+BYTES, ENTRIES, HITS, NUMBERS = "B", "H", "I", "Q"
 
 
 class Told(ctypes.Structure):
     _fields_ = [("kind", ctypes.c_size_t), ("numbers", ctypes.c_size_t * 4)]
 
 
+class Swept(ctypes.Structure):
+    _fields_ = [(name, ctypes.c_uint64) for name in ("refusal", "value", "hits", "fetched")]
+
+
 class Lent:
-    """A slice to lend: bytes, entries of 16 bits or numbers of 64 bits, with others around it that no call may touch."""
+    """A slice to lend: bytes, entries of 16 bits, hits of 32 or numbers of 64 bits, with others around it that no call may touch."""
 
     def __init__(self, code, content):
         self.code = code
@@ -39,27 +44,42 @@ class Byte(int):
     """A byte to pass, where other numbers have 64 bits."""
 
 
-def load():
-    if not ARCHIVE.is_file():
-        sys.exit(f"{ARCHIVE} is not there; `rt staticlib probe` makes it")
+@functools.cache
+def load(crate):
+    archive = ARCHIVES / f"lib{crate}.a"
+    if not archive.is_file():
+        sys.exit(f"{archive} is not there; `rt staticlib {crate}` makes it")
     with tempfile.TemporaryDirectory() as folder:
-        shared = pathlib.Path(folder, "libprobe.so")
-        subprocess.run(["gcc", "-shared", "-o", shared, "-Wl,--whole-archive", ARCHIVE, "-Wl,--no-whole-archive"], check=True)
+        shared = pathlib.Path(folder, f"lib{crate}.so")
+        subprocess.run(["gcc", "-shared", "-o", shared, "-Wl,--whole-archive", archive, "-Wl,--no-whole-archive"], check=True)
         return ctypes.CDLL(str(shared))
 
 
-library = load()
+probe = load("probe")
+
+
+def passed(given):
+    """What is given, as C takes it: a slice as its start and its length."""
+    out = []
+    for x in given:
+        if isinstance(x, Lent):
+            out += x.slice()
+        else:
+            out.append((ctypes.c_uint8 if isinstance(x, Byte) else ctypes.c_size_t)(x))
+    return out
 
 
 def call(name, *given):
     """What the call tells: its kind and its numbers; of `probe_body_at` its one number."""
-    function = getattr(library, name)
+    function = getattr(probe, name)
     function.restype = ctypes.c_size_t if name == "probe_body_at" else Told
-    passed = []
-    for x in given:
-        if isinstance(x, Lent):
-            passed += x.slice()
-        else:
-            passed.append((ctypes.c_uint8 if isinstance(x, Byte) else ctypes.c_size_t)(x))
-    told = function(*passed)
+    told = function(*passed(given))
     return told if name == "probe_body_at" else (told.kind, *told.numbers)
+
+
+def sweep(*given):
+    """What the gateway's sweep of a whole image tells: a refusal (0: none) and its value, the numbers of hits and of bytes fetched."""
+    function = load("gateway").lonnatchi_sweep
+    function.restype = Swept
+    told = function(*passed(given))
+    return (told.refusal, told.value, told.hits, told.fetched)

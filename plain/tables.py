@@ -1,4 +1,4 @@
-"""Books and tree tables, plainly, from document 01 alone: what the proved calls are compared with."""
+"""Books and tree tables, plainly, from the papers alone: what the proved calls are compared with."""
 
 LENGTHS = {k: k for k in range(1, 65)} | {65: 128, 66: 256, 67: 512, 68: 1024}
 
@@ -43,6 +43,39 @@ def body_at(book, at):
     """Length of the body of the record at a place, 0 where no whole record stands."""
     size = LENGTHS.get(book[at], 0) if at < len(book) else 0
     return size if at + 1 + size <= len(book) else 0
+
+
+def whole_bodies(book):
+    """The bodies of the records that follow one another from the start, up to where no whole one with a body stands."""
+    bodies, at = [], 0
+    while body_at(book, at):
+        start, at = at + 1, at + 1 + body_at(book, at)
+        bodies.append(book[start:at])
+    return bodies
+
+
+def contains(book, body):
+    """Whether one of these is the body, be the book accepted or not."""
+    return body in whole_bodies(book)
+
+
+def merge(first, second, room):
+    """Two books as one in an output of `room` bytes: ('accepted', book) or ('refused', number, value)."""
+    reading, other = read(first), read(second)
+    if reading[0] == "refused":
+        return reading
+    if other[0] == "refused":
+        return ("refused", 13, other[1])
+    tokens, bodies, records, at = len(reading[1]), sum(map(len, reading[1])), first[:-1], 0
+    for body in other[1]:
+        end = at + 1 + len(body)
+        if body not in reading[1]:
+            tokens, bodies, records = tokens + 1, bodies + len(body), records + second[at:end]
+            if tokens > 256 or bodies > 16384:
+                return ("refused", 5, at)
+        at = end
+    book = records + b"\0"
+    return ("accepted", book) if len(book) <= room else ("refused", 14, len(book))
 
 
 def build(bodies):

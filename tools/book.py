@@ -1,10 +1,12 @@
 #!/usr/bin/env python3
-"""Makes a revocation book from a list of tokens, and shows what is in a book.
+"""Makes a revocation book from a list of tokens, merges two books, and shows what is in a book.
 
-  tools/book.py make TOKENS.txt BOOK.bin   one token a line, in hex; blank lines are passed over, and so is what follows a '#'
-  tools/book.py show BOOK.bin              the tokens as such a list, or why the book is refused
+  tools/book.py make TOKENS.txt BOOK.bin             one token a line, in hex; blank lines are passed over, and so is what follows a '#'
+  tools/book.py merge FIRST.bin SECOND.bin OUT.bin   all tokens of the first book, then those of the second that the first lacks
+  tools/book.py show BOOK.bin                        the tokens as such a list, or why the book is refused
 
-'-' is standard input or output. Exit code 1: the list or the book is refused; 2: a file can't be used, or the words are wrong.
+'-' is standard input or output. Exit code 1: the list or a book is refused, and no file is written; 2: a file can't be used, or the words
+are wrong.
 """
 import argparse
 import os
@@ -70,6 +72,22 @@ def shown(book):
     return "".join(f"# token {i}, {len(body)} bytes\n{body.hex()}\n" for i, body in enumerate(reading[1], 1))
 
 
+def merged(first, second, names):
+    """Two books as one; `names` are theirs. The output is as long as needed, so 14 does not come."""
+    answer = tables.merge(first, second, len(first) + len(second))
+    if answer[0] == "accepted":
+        return answer[1]
+    number, value = answer[1:]
+    own, other = tables.read(first), tables.read(second)
+    if own[0] == "refused":
+        words = f"{names[0]}, the first book: {WHY[number]}"
+    elif number == 13:
+        words = "{}, the second book, is refused {} {}: {}".format(names[1], *other[1:], WHY[value])
+    else:
+        words = f"with the record at this place of {names[1]}, the second book, there are more than 256 tokens or 16,384 body bytes in both"
+    raise Refused(f"refused {number} {value}: {words}")
+
+
 def content(name):
     return sys.stdin.buffer.read() if name == "-" else pathlib.Path(name).read_bytes()
 
@@ -89,20 +107,29 @@ class Parser(argparse.ArgumentParser):
 
 def main():
     parser = Parser(prog="tools/book.py", description=__doc__, formatter_class=argparse.RawDescriptionHelpFormatter)
-    commands = parser.add_subparsers(dest="command", required=True, metavar="make|show")
+    commands = parser.add_subparsers(dest="command", required=True, metavar="make|merge|show")
     make = commands.add_parser("make", help="make a book from a list of tokens")
     make.add_argument("tokens", metavar="TOKENS.txt")
     make.add_argument("book", metavar="BOOK.bin")
+    merge = commands.add_parser("merge", help="merge two books")
+    merge.add_argument("first", metavar="FIRST.bin")
+    merge.add_argument("second", metavar="SECOND.bin")
+    merge.add_argument("out", metavar="OUT.bin")
     show = commands.add_parser("show", help="show the tokens of a book")
     show.add_argument("book", metavar="BOOK.bin")
     asked = parser.parse_args()
+    if asked.command == "merge" and asked.first == asked.second == "-":
+        parser.error("only one of the two books can be standard input")
     try:
         if asked.command == "make":
             write(asked.book, made(content(asked.tokens).decode("latin-1"), asked.tokens))
+        elif asked.command == "merge":
+            names = (asked.first, asked.second)
+            write(asked.out, merged(*map(content, names), names))
         else:
             write("-", shown(content(asked.book)).encode())
     except Refused as why:
-        if asked.command == "make":
+        if asked.command != "show":
             parser.exit(1, f"book.py: {why}\n")
         print(why)
         sys.exit(1)

@@ -147,11 +147,26 @@ pub data Place : Type 0 where
   missing : Place
   unread : Place
 
--- Each token before it takes its body and a kind byte, and its own kind byte comes first.
+-- The place of the record with i others before it: each of them takes a kind byte and its body.
+abbrev pub recordPlace : List (List ℕ) → ℕ → ℕ
+recordPlace tokens i = i + total (take i tokens)
+
+-- The body stands behind its record's kind byte.
 abbrev pub placeIn : Reading → ℕ → Place
 placeIn (refused k v) i = unread
 placeIn (accepted tokens) i =
     elim (leb 1 i && leb i (length tokens)) [
-      | true ↦ found (i + total (take (i - 1) tokens)) (length (getD tokens (i - 1) []))
+      | true ↦ found (recordPlace tokens (i - 1) + 1) (length (getD tokens (i - 1) []))
       | false ↦ missing
     ]
+
+-- The bodies of the whole records that follow one another from place `at` on, up to where none with a body stands.
+abbrev pub bodiesFrom : List ℕ → ℕ → ℕ → List (List ℕ)
+bodiesFrom book zero at = []
+bodiesFrom book (suc fuel) at =
+    let n = wholeAt book at in
+    elim (eqb n 0) [ true ↦ [] | false ↦ take n (drop (at + 1) book) ∷ bodiesFrom book fuel (at + 1 + n) ]
+
+-- Those of a book from its start on, be it accepted or not. A record takes a byte at least, so its length is fuel enough.
+abbrev pub bodiesIn : List ℕ → List (List ℕ)
+bodiesIn book = bodiesFrom book (length book) 0

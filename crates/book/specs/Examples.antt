@@ -1,11 +1,13 @@
--- Samples of refused books, a table for each cause: the cause alone, and beside others so that their order is pinned.
+-- Samples of refused books, a table for each cause: the cause alone, and beside others so that their order is pinned. And of the bodies of a
+-- book, and of a book's bytes.
 use Prim.Native.Nat.{ℕ, suc}
 use mathlib.Core.Path.{_≡_, refl}
 use mathlib.Core.Bool.{Bool, true, false, _&&_}
-use mathlib.Core.List.{List, [], _∷_}
+use mathlib.Core.List.{List, [], _∷_, _++_}
 use lib.Dec.{eqb}
 use lib.ListN.{length, replicate}
-use Rattle.book.specs.Book.{Reading, accepted, refused, refusalIn, readFrom, readBook}
+use Rattle.book.specs.Book.{Reading, accepted, refused, refusalIn, bodiesIn, readFrom, readBook}
+use Rattle.book.specs.Bytes.{kindOf, bookOf}
 use Rattle.book.specs.declared.Refusal.the-variants.{Unfinished, UnknownKind, Trailing, Repeat, OverLimits, NoToken}
 use Rattle.book.specs.Answers.{refusalOf}
 
@@ -86,3 +88,18 @@ accepted-told = refl
 cases-told : refusalOf (Unfinished 9) ∷ refusalOf (UnknownKind 9) ∷ refusalOf (Trailing 9) ∷ refusalOf (Repeat 9) ∷ refusalOf (OverLimits 9) ∷ refusalOf NoToken ∷ []
     ≡ (1, 9) ∷ (2, 9) ∷ (3, 9) ∷ (4, 9) ∷ (5, 9) ∷ (6, 0) ∷ []
 cases-told = refl
+
+-- The bodies of a book that breaks off, of one that goes on behind its 00h, of one with a kind above 44h, and of an empty one.
+bodies-found : bodiesIn (1 ∷ 97 ∷ 2 ∷ 98 ∷ 99 ∷ 3 ∷ 97 ∷ []) ∷ bodiesIn (1 ∷ 97 ∷ 0 ∷ 1 ∷ 98 ∷ []) ∷ bodiesIn (1 ∷ 97 ∷ 69 ∷ 1 ∷ 98 ∷ []) ∷ bodiesIn [] ∷ []
+    ≡ ((97 ∷ []) ∷ (98 ∷ 99 ∷ []) ∷ []) ∷ ((97 ∷ []) ∷ []) ∷ ((97 ∷ []) ∷ []) ∷ [] ∷ []
+bodies-found = refl
+
+-- A book made of tokens, one of them long, and the kinds of the long ones.
+made-right : bookOf ((97 ∷ []) ∷ (98 ∷ 99 ∷ []) ∷ []) ≡ 1 ∷ 97 ∷ 2 ∷ 98 ∷ 99 ∷ 0 ∷ []
+made-right = refl
+
+long-right : bookOf (replicate 128 97 ∷ (98 ∷ []) ∷ []) ≡ 65 ∷ replicate 128 97 ++ (1 ∷ 98 ∷ 0 ∷ [])
+long-right = refl
+
+kinds-right : kindOf 64 ∷ kindOf 128 ∷ kindOf 256 ∷ kindOf 512 ∷ kindOf 1024 ∷ [] ≡ 64 ∷ 65 ∷ 66 ∷ 67 ∷ 68 ∷ []
+kinds-right = refl

@@ -1,5 +1,6 @@
--- The revocation book, what the code's answers say of it, samples of its refusals, and laws of the books that are accepted.
+-- The revocation book, the bytes of one made of tokens, what the code's answers say in document 01's numbers, samples, and laws.
 pub mod Book
+pub mod Bytes
 pub mod Answers
 pub mod Examples
 pub mod Laws

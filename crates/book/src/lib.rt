@@ -4,12 +4,14 @@ mod repeats;
 mod sums;
 
 use records::body_length;
+use repeats::equal;
 use repeats::repeated;
 ghost use mathlib.Core.Path.{_≡_};
 ghost use mathlib.Core.List.{List};
 ghost use Prim.Native.Nat.{ℕ, _<_};
 ghost use lib.ListN.{length};
-ghost use Rattle.book.specs.Book.{wholeAt, closed, readBook, summary, placeIn};
+ghost use Rattle.rules.specs.Lists.{anyOf, same};
+ghost use Rattle.book.specs.Book.{wholeAt, bodiesIn, closed, readBook, summary, placeIn};
 ghost use Rattle.book.specs.Answers.{Amounts, refusalOf, verdictOf, placeOf};
 
 // The limits belong to the book itself.
@@ -111,6 +113,25 @@ pub fn body_at(book: &[u8], at: usize) -> usize
         return 0;
     }
     size
+}
+
+// Whether one of the records that follow one another from the book's start has this body. The bytes are compared where they stand.
+pub fn contains(book: &[u8], body: &[u8]) -> bool
+    ensures { λ r. ⌜ r ≡ anyOf (same (now (body .entry))) (bodiesIn (now (book .entry))) ⌝ }
+{
+    let mut at = 0;
+    loop {
+        let size = body_at(book, at);
+        if size == 0 {
+            return false;
+        }
+        let start = at + 1;
+        let end = start + size;
+        if equal(body, &book[start..end]) {
+            return true;
+        }
+        at = end;
+    }
 }
 
 // Whether the book is accepted, and what its tokens amount to.

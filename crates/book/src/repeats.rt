@@ -1,6 +1,6 @@
 // The test for a repeat: the later body against the body of each record before it.
 use crate::Book;
-use crate::body_at;
+use crate::contains;
 ghost use mathlib.Core.Path.{_≡_};
 ghost use mathlib.Core.List.{List};
 ghost use Prim.Native.Nat.{ℕ, _+_, _≤_};
@@ -17,7 +17,7 @@ pub fn repeated(book: &[u8], at: usize, size: usize) -> bool
     let start = at + 1;
     let end = start + size;
     let own = copied(&book[start..end]);
-    earlier(book, at, &own[..size])
+    contains(&book[..at], &own[..size])
 }
 
 // A body in a buffer of the reader's own.
@@ -34,25 +34,8 @@ fn copied(body: &[u8]) -> [u8; Book::BODY]
     own
 }
 
-// Whether some record before place `at` has this body.
-fn earlier(book: &[u8], at: usize, body: &[u8]) -> bool
-    requires { ⌜ at ≤ length (now book) ⌝ }
-    ensures { λ r. ⌜ ((ts : List (List ℕ)) → Upto (now (book .entry)) at ts → r ≡ anyOf (same (now (body .entry))) ts) ⌝ }
-{
-    let mut p = 0;
-    while p < at {
-        let start = p + 1;
-        let end = start + body_at(book, p);
-        if equal(body, &book[start..end]) {
-            return true;
-        }
-        p = end;
-    }
-    false
-}
-
 // Whether the two hold the same bytes. Bodies of other lengths cost nothing, and the first difference ends it.
-fn equal(a: &[u8], b: &[u8]) -> bool
+pub fn equal(a: &[u8], b: &[u8]) -> bool
     ensures { λ r. ⌜ r ≡ same (now (a .entry)) (now (b .entry)) ⌝ }
 {
     if a.len() != b.len() {

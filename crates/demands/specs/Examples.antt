@@ -1,13 +1,13 @@
 -- The sample sweeps P1 to P8 of document 01 as one table from the book's bytes on, and one result over its rows; each sweep ends with
--- done. And samples of calls from building on, one sweep and one list.
+-- done. And samples of calls from building on, one sweep and one list, and of hits by their tokens' bytes.
 use Prim.Native.Nat.{ℕ}
 use mathlib.Core.Path.{_≡_, refl}
 use mathlib.Core.Bool.{Bool, true, false, _&&_}
-use mathlib.Core.List.{List, [], _∷_}
+use mathlib.Core.List.{List, [], _∷_, _++_}
 use lib.Dec.{eqb}
 use lib.ListN.{getD, replicate}
 use Rattle.rules.specs.Rules.{trace}
-use Rattle.rules.specs.Sweep.{happens}
+use Rattle.rules.specs.Sweep.{happens, hitsOf}
 use Rattle.rules.specs.Examples.{Sample, a, b, x, p1, p2, p3, p4, p5, right}
 use Rattle.book.specs.Book.{Reading, readBook, accepted, refused}
 use Rattle.tables.specs.Tables.{Building, built, build}
@@ -15,7 +15,9 @@ use Rattle.scan.specs.Start.{started}
 use Rattle.scan.specs.Calls.{Answer, fetch, found, over, refused as denied, carryOn}
 use Rattle.scan.specs.Answers.{answers}
 use Rattle.demands.specs.Demand2.{swept}
+use Rattle.merge.specs.Merge.{wrote, merge}
 use Rattle.demands.specs.Demand3.{Call, carry, give, ran, expected}
+use Rattle.demands.specs.Merge.{tokenIn, named}
 
 -- What a row says of its book: it is accepted, and its tokens make a sample sweep; or it is refused.
 data Outcome : Type 0 where
@@ -96,3 +98,36 @@ counted-right = refl
 expected-right : expected false (answers (happens ((a ∷ []) ∷ (a ∷ a ∷ []) ∷ []) 1 (λ k p. getD (a ∷ []) k 0))) calls ≡ replies
 unfolding happens trace
 expected-right = refl
+
+-- "a" and "aa", and "b" and "a", in the image "aab": by their tokens' bytes the merged book finds the hits of both.
+abbrev north : List ℕ
+north = 1 ∷ a ∷ 2 ∷ a ∷ a ∷ 0 ∷ []
+
+abbrev south : List ℕ
+south = 1 ∷ b ∷ 1 ∷ a ∷ 0 ∷ []
+
+abbrev both : List ℕ
+both = 1 ∷ a ∷ 2 ∷ a ∷ a ∷ 1 ∷ b ∷ 0 ∷ []
+
+both-written : merge north south (replicate 9 7) ≡ record { answer = wrote 8; out = both ++ (7 ∷ []) }
+both-written = refl
+
+aab : List ℕ
+aab = a ∷ a ∷ b ∷ []
+
+north-named : named north (hitsOf ((a ∷ []) ∷ (a ∷ a ∷ []) ∷ []) aab) ≡ (1, a ∷ []) ∷ (2, a ∷ []) ∷ (2, a ∷ a ∷ []) ∷ []
+unfolding aab happens trace
+north-named = refl
+
+south-named : named south (hitsOf ((b ∷ []) ∷ (a ∷ []) ∷ []) aab) ≡ (1, a ∷ []) ∷ (2, a ∷ []) ∷ (3, b ∷ []) ∷ []
+unfolding aab happens trace
+south-named = refl
+
+both-named : named both (hitsOf ((a ∷ []) ∷ (a ∷ a ∷ []) ∷ (b ∷ []) ∷ []) aab)
+    ≡ (1, a ∷ []) ∷ (2, a ∷ []) ∷ (2, a ∷ a ∷ []) ∷ (3, b ∷ []) ∷ []
+unfolding aab happens trace
+both-named = refl
+
+-- A token that is not in the book has no bytes.
+none-named : tokenIn south 0 ∷ tokenIn south 3 ∷ tokenIn [] 1 ∷ [] ≡ [] ∷ [] ∷ [] ∷ []
+none-named = refl

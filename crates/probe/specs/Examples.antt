@@ -2,17 +2,19 @@
 use Prim.{tt}
 use Prim.Native.Nat.{ℕ}
 use mathlib.Core.Path.{_≡_, refl}
+use mathlib.Core.Bool.{true, false}
 use mathlib.Core.List.{List, [], _∷_, _++_}
 use mathlib.Core.Option.{some, none}
 use lib.ListN.{take, set, replicate}
 use Rattle.book.specs.Book.{accepted, refused, found, missing, unread}
+use Rattle.merge.specs.Merge.{wrote}
 use Rattle.trie.specs.Answers.{tables}
 use Rattle.trie.specs.declared.chain.Way.the-variants.{Found, Ends}
 use Rattle.scan.specs.declared.Scan.{Scan}
 use Rattle.scan.specs.Start.{start}
 use Rattle.scan.specs.Calls.{fetch, found as hit, over, refused as denied, Stepped}
 use Rattle.probe.specs.declared.Told.{Told}
-use Rattle.probe.specs.Numbers.{told, readingOf, placeOf, sizesTold, buildingOf, testedOf, childOf, wayOf, stepOf}
+use Rattle.probe.specs.Numbers.{told, readingOf, placeOf, containsOf, lengthTold, mergingOf, sizesTold, buildingOf, testedOf, childOf, wayOf, stepOf}
 use Rattle.probe.specs.States.{Lent, numbersOf, stateIn, startIn, stepIn}
 
 -- each answer as one list, its kind first
@@ -24,6 +26,7 @@ unfolding plain
 answers =
     plain (readingOf (refused 4 12)) ∷ plain (readingOf (accepted (record { tokens = 3; bodies = 20; shortest = 2; longest = 16 })))
     ∷ plain (placeOf (found 7 5)) ∷ plain (placeOf missing) ∷ plain (placeOf unread)
+    ∷ plain (containsOf true) ∷ plain (containsOf false) ∷ plain (lengthTold (accepted 9)) ∷ plain (lengthTold (refused 13 4))
     ∷ plain (sizesTold (refused 7 21)) ∷ plain (sizesTold (accepted (record { nodes = 19; shortest = 2; longest = 16 })))
     ∷ plain (testedOf (accepted tt)) ∷ plain (testedOf (refused 9 8))
     ∷ plain (childOf (some 8)) ∷ plain (childOf none)
@@ -34,6 +37,7 @@ answers =
 answers-told : answers
     ≡ (0 ∷ 4 ∷ 12 ∷ 0 ∷ 0 ∷ []) ∷ (1 ∷ 3 ∷ 20 ∷ 2 ∷ 16 ∷ [])
     ∷ (1 ∷ 7 ∷ 5 ∷ 0 ∷ 0 ∷ []) ∷ (2 ∷ 0 ∷ 0 ∷ 0 ∷ 0 ∷ []) ∷ (3 ∷ 0 ∷ 0 ∷ 0 ∷ 0 ∷ [])
+    ∷ (1 ∷ 0 ∷ 0 ∷ 0 ∷ 0 ∷ []) ∷ (2 ∷ 0 ∷ 0 ∷ 0 ∷ 0 ∷ []) ∷ (1 ∷ 9 ∷ 0 ∷ 0 ∷ 0 ∷ []) ∷ (0 ∷ 13 ∷ 4 ∷ 0 ∷ 0 ∷ [])
     ∷ (0 ∷ 7 ∷ 21 ∷ 0 ∷ 0 ∷ []) ∷ (1 ∷ 19 ∷ 2 ∷ 16 ∷ 0 ∷ [])
     ∷ (1 ∷ 0 ∷ 0 ∷ 0 ∷ 0 ∷ []) ∷ (0 ∷ 9 ∷ 8 ∷ 0 ∷ 0 ∷ [])
     ∷ (1 ∷ 8 ∷ 0 ∷ 0 ∷ 0 ∷ []) ∷ (2 ∷ 0 ∷ 0 ∷ 0 ∷ 0 ∷ [])
@@ -57,7 +61,11 @@ none-due : numbersOf (stateIn (set state 6 0)) ≡ set state 6 0
 unfolding state
 none-due = refl
 
--- What building left is told beside its answer.
+-- What merging wrote, and what building left, is told beside the answer.
+merged-told : mergingOf (record { answer = wrote 3; out = 1 ∷ 97 ∷ 0 ∷ 7 ∷ [] })
+    ≡ record { told = told 1 3 0 0 0; out = 1 ∷ 97 ∷ 0 ∷ 7 ∷ [] }
+merged-told = refl
+
 built-told : buildingOf (record { answer = refused 7 21; tables = tables (1 ∷ []) (2 ∷ []) (3 ∷ []) (4 ∷ []) (5 ∷ []) })
     ≡ record { told = told 0 7 21 0 0; tables = tables (1 ∷ []) (2 ∷ []) (3 ∷ []) (4 ∷ []) (5 ∷ []) }
 built-told = refl

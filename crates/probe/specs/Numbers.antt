@@ -1,10 +1,12 @@
 -- Answers as a kind and four numbers. Kind 0 is a refusal, with its number and value; the others are given with each call. Numbers
--- that there are not are 0. Different answers to a call have different numbers.
+-- that there are not are 0. Different answers to a call have different numbers, but for the two cases of 5 in a merge.
 use Prim.{Unit}
 use Prim.Native.Nat.{ℕ}
-use mathlib.Core.List.{[], _∷_}
+use mathlib.Core.Bool.{Bool, true, false}
+use mathlib.Core.List.{List, [], _∷_}
 use mathlib.Core.Option.{Option, some, none}
 use Rattle.book.specs.Book.{Verdict, accepted, refused, Totals, Place, found, missing, unread}
+use Rattle.merge.specs.Merge.{verdict, Merging}
 use Rattle.tables.specs.Tables.{Tables, Sizes, Building}
 use Rattle.trie.specs.declared.chain.Way.{Way}
 use Rattle.trie.specs.declared.chain.Way.the-variants.{Found, Ends}
@@ -28,6 +30,23 @@ abbrev pub placeOf : Place → Told
 placeOf (found at size) = told 1 at size 0 0
 placeOf missing = told 2 0 0 0 0
 placeOf unread = told 3 0 0 0 0
+
+-- Whether a book has a body: 1, it has; 2, it has not.
+abbrev pub containsOf : Bool → Told
+containsOf true = told 1 0 0 0 0
+containsOf false = told 2 0 0 0 0
+
+-- Merging: 1, the length written; and the lent output.
+abbrev pub lengthTold : Verdict ℕ → Told
+lengthTold (accepted n) = told 1 n 0 0 0
+lengthTold (refused k v) = refusal k v
+
+pub record Merged : Type 0 where
+  pub told : Told
+  pub out : List ℕ
+
+abbrev pub mergingOf : Merging → Merged
+mergingOf m = record { told = lengthTold (verdict (m .answer)); out = m .out }
 
 -- Building: 1, the number of nodes, S and D; and the lent tables.
 abbrev pub sizesTold : Verdict Sizes → Told

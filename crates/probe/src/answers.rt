@@ -1,10 +1,12 @@
 // What the calls answer, in numbers.
 ghost use mathlib.Core.Path.{_≡_};
 ghost use Rattle.book.specs.Answers.{verdictOf, placeOf as spotOf};
+ghost use Rattle.merge.specs.Merge.{verdict};
+ghost use Rattle.merge.specs.Answers.{answerOf as mergedOf};
 ghost use Rattle.trie.specs.Answers.{answerOf as sizesOf, testedOf as breakOf, childOf as nodeOf};
 ghost use Rattle.scan.specs.declared.Scan.{Scan};
 ghost use Rattle.scan.specs.Results.{answerOf, verdictOf as readyOf};
-ghost use Rattle.probe.specs.Numbers.{told, refusal, readingOf, placeOf, sizesTold, testedOf, childOf, wayOf, openingOf, stepOf};
+ghost use Rattle.probe.specs.Numbers.{told, refusal, readingOf, placeOf, containsOf, lengthTold, sizesTold, testedOf, childOf, wayOf, openingOf, stepOf};
 use crate::Told;
 use book::Numbered;
 use scan::Answer;
@@ -41,6 +43,27 @@ pub fn place(answer: book::Place) -> Told
         book::Place::Found(at, size) => tell(1, at, size, 0, 0),
         book::Place::Missing => tell(2, 0, 0, 0, 0),
         book::Place::Unread => tell(3, 0, 0, 0, 0),
+    }
+}
+
+pub fn contains(answer: bool) -> Told
+    ensures { λ r. ⌜ r ≡ containsOf answer ⌝ }
+{
+    if answer {
+        return tell(1, 0, 0, 0, 0);
+    }
+    tell(2, 0, 0, 0, 0)
+}
+
+pub fn merging(answer: merge::Merging) -> Told
+    ensures { λ r. ⌜ r ≡ lengthTold (verdict (mergedOf answer)) ⌝ }
+{
+    match answer {
+        merge::Merging::Written(length) => tell(1, length, 0, 0, 0),
+        merge::Merging::Unread(_) => refused(answer.numbered()),
+        merge::Merging::SecondUnread(_) => refused(answer.numbered()),
+        merge::Merging::OverLimits(_) => refused(answer.numbered()),
+        merge::Merging::TooShort(_) => refused(answer.numbered()),
     }
 }
 

@@ -4,7 +4,9 @@ mod states;
 
 ghost use mathlib.Core.Path.{_≡_};
 ghost use mathlib.Core.List.{[]};
-ghost use Rattle.book.specs.Book.{readBook, summary, placeIn, wholeAt};
+ghost use Rattle.rules.specs.Lists.{anyOf, same};
+ghost use Rattle.book.specs.Book.{readBook, summary, placeIn, wholeAt, bodiesIn};
+ghost use Rattle.merge.specs.Merge.{merge};
 ghost use Rattle.tables.specs.Tables.{build};
 ghost use Rattle.tables.specs.Broken.{broken, tested};
 ghost use Rattle.tables.specs.Walks.{childBy};
@@ -12,7 +14,7 @@ ghost use Rattle.trie.specs.Chain.{walked};
 ghost use Rattle.trie.specs.Answers.{tables};
 ghost use Rattle.scan.specs.Start.{start};
 ghost use Rattle.scan.specs.Calls.{carryOn, supply};
-ghost use Rattle.probe.specs.Numbers.{readingOf, placeOf, buildingOf, testedOf, childOf, wayOf};
+ghost use Rattle.probe.specs.Numbers.{readingOf, placeOf, containsOf, mergingOf, buildingOf, testedOf, childOf, wayOf};
 ghost use Rattle.probe.specs.States.{startIn, stepIn};
 use scan::Opening;
 use scan::Scan;
@@ -43,6 +45,22 @@ pub extern "C" fn probe_body_at(book: &[u8], at: usize) -> usize
     ensures { λ r. ⌜ r ≡ wholeAt (now (book .entry)) at ⌝ }
 {
     book::body_at(book, at)
+}
+
+#[no_mangle]
+pub extern "C" fn probe_contains(book: &[u8], body: &[u8]) -> Told
+    ensures { λ r. ⌜ r ≡ containsOf (anyOf (same (now (body .entry))) (bodiesIn (now (book .entry)))) ⌝ }
+{
+    answers::contains(book::contains(book, body))
+}
+
+#[no_mangle]
+pub extern "C" fn probe_merge(first: &[u8], second: &[u8], out: &mut [u8]) -> Told
+    ensures { λ r. ⌜
+        record { told = r; out = now (out .exit) } ≡ mergingOf (merge (now (first .entry)) (now (second .entry)) (now (out .entry)))
+        ⌝ }
+{
+    answers::merging(merge::merge(first, second, out))
 }
 
 #[no_mangle]

@@ -3,6 +3,8 @@
 -- swept alike (Alike). The others serve these.
 pub mod Tests
 pub mod All
+pub mod Members
+pub mod Over
 pub mod Lengths
 pub mod Endings
 pub mod Digits

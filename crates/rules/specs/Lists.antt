@@ -1,8 +1,9 @@
--- Tests and searches on lists of bytes, in which the other definitions are written.
+-- Tests and searches on lists of bytes, and one list laid over another, in which the other definitions are written.
 use Prim.Native.Nat.{ℕ, zero, suc, _+_}
 use mathlib.Core.Bool.{Bool, true, false, _&&_, _||_}
-use mathlib.Core.List.{List, [], _∷_}
+use mathlib.Core.List.{List, [], _∷_, _++_}
 use lib.Dec.{eqb}
+use lib.ListN.{length, drop}
 
 -- the elements that pass
 abbrev pub select {ℓ} : {A : Type ℓ} → (A → Bool) → List A → List A
@@ -35,3 +36,7 @@ same (x ∷ xs) (y ∷ ys) = eqb x y && same xs ys
 abbrev pub numberFrom : ℕ → List ℕ → List (List ℕ) → ℕ
 numberFrom i u [] = 0
 numberFrom i u (t ∷ ts) = elim (same u t) [ true ↦ i | false ↦ numberFrom (i + 1) u ts ]
+
+-- l with the entries of m written from its front; what follows them stays
+abbrev pub over : List ℕ → List ℕ → List ℕ
+over m l = m ++ drop (length m) l

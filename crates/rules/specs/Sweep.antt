@@ -49,7 +49,7 @@ pub record Stands (tokens : List (List ℕ)) (image : List ℕ) (e i : ℕ) : Ty
   pub bytes : take (length (getD tokens i [])) (drop (e - length (getD tokens i [])) image) ≡ getD tokens i []
 
 -- each element stands one time
-abbrev pub Once : List (ℕ × ℕ) → Type 0
+abbrev pub Once : {A : Type 0} → List A → Type 0
 Once [] = Unit {0}
 Once (h ∷ hs) = (List·Memᴰ h hs → ⊥) × Once hs
 

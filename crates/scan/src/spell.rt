@@ -5,7 +5,7 @@ ghost use mathlib.Core.Path.{_≡_};
 ghost use mathlib.Core.List.{[]};
 ghost use lib.ListN.{length};
 ghost use Rattle.book.specs.Book.{maxBody};
-ghost use Rattle.tables.specs.Tables.{over};
+ghost use Rattle.rules.specs.Lists.{over};
 ghost use Rattle.tables.specs.Walks.{ending, depth, lifted};
 ghost use Rattle.scan.specs.Ways.{paths, Climbs, Spells, Along, Run};
 use book::Book;

@@ -4,8 +4,8 @@ use mathlib.Core.Path.{_≡_}
 use mathlib.Core.Bool.{Bool, true, false}
 use mathlib.Core.List.{List, [], _∷_, _++_, map}
 use lib.Dec.{ltb}
-use lib.ListN.{length, drop}
-use Rattle.rules.specs.Lists.{same, anyOf, numberFrom}
+use lib.ListN.{length}
+use Rattle.rules.specs.Lists.{same, anyOf, numberFrom, over}
 use Rattle.rules.specs.Tokens.{total, shortestOf, longestOf}
 use Rattle.book.specs.Book.{Verdict, accepted, refused, readBook}
 
@@ -84,10 +84,7 @@ pub record Lent (t u : Tables) : Type 0 where
   pub firsts : (more : List ℕ) × (t .first ≡ u .first ++ more)
   pub nexts : (more : List ℕ) × (t .next ≡ u .next ++ more)
 
--- l with the entries of m written from its front; what follows them stays
-abbrev pub over : List ℕ → List ℕ → List ℕ
-over m l = m ++ drop (length m) l
-
+-- t's lists with those of u written over their fronts
 abbrev pub written : Tables → Tables → Tables
 written u t = record {
   parent = over (u .parent) (t .parent);

@@ -5,9 +5,10 @@ use mathlib.Core.List.{List, map}
 use lib.Dec.{ltb}
 use lib.ListN.{length, take}
 use Rattle.rules.specs.Tokens.{total}
+use Rattle.rules.specs.Lists.{over}
 pub use Rattle.rules.specs.Sweep.{hitsOf, fetchesOf}
 use Rattle.book.specs.Book.{Verdict, accepted, refused, readBook, maxImage}
-use Rattle.tables.specs.Tables.{Tables, built, over, written, tooShort}
+use Rattle.tables.specs.Tables.{Tables, built, written, tooShort}
 
 -- What the sweep answers, the number of hits or a refusal; how many bytes it fetched, none where nothing is swept; and what the lent
 -- tables and hit buffers then hold.

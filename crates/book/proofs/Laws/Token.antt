@@ -3,22 +3,20 @@ use Prim.Native.Nat.{ℕ, _+_, _-_, _≤_, _<_}
 use native.Mathlib.Numerals.{add-one}
 use native.Mathlib.Omega.{arith}
 use mathlib.Core.List.{List, []}
-use mathlib.Core.Path.{_≡_, refl, ap, sym, _∙_}
+use mathlib.Core.Path.{_≡_, ap, sym, _∙_}
 use borrow.Author.Tests.{le-leb, lt-leb}
 use lib.ListN.{length, getD, take}
 use lib.Seq.{take-suc}
 use Rattle.rules.specs.Tokens.{total}
-use Rattle.book.specs.Book as book
-use Rattle.book.specs.Book.{Verdict, Reading, accepted, refused, found, missing, unread, wholeAt, readBook, summary, placeIn}
+use Rattle.book.specs.Book.{Reading, accepted, refused, found, missing, unread, wholeAt, readBook, summary, placeIn}
 use Rattle.book.specs.Answers.{totalled}
-use Rattle.book.specs.Laws.Accepted.{total-snoc}
+use Rattle.book.specs.Laws.Accepted.{total-snoc, summed, refused-as}
 use Rattle.book.specs.Laws.Records.{Held, records-at, accepted-records, accepted-place}
 use Rattle.book.specs.declared.Totals.{Totals}
 
 -- The book is refused.
 pub unread-is : (r : Reading) (k v i : ℕ) → refused k v ≡ summary r → unread ≡ placeIn r i
-unread-is (accepted ts) k v i e = absurd (let z : _≡_ {A = ℕ} 0 1 = cc in omega arith)
-unread-is (refused j u) k v i e = refl
+unread-is r k v i e = rw (refused-as r k v e)
 
 -- The book has these tokens.
 pub record Has (book : List ℕ) (count : ℕ) : Type 0 where
@@ -26,16 +24,8 @@ pub record Has (book : List ℕ) (count : ℕ) : Type 0 where
   pub read : readBook book ≡ accepted tokens
   pub counted : count ≡ length tokens
 
-abbrev countOf : Verdict book.Totals → ℕ
-countOf (accepted t) = t .tokens
-countOf (refused k v) = 0
-
 pub has : (b : List ℕ) (t : Totals) → accepted (totalled t) ≡ summary (readBook b) → Has b (t .tokens)
-has b t e = go (readBook b) refl e
-  where
-    go : (r : Reading) → readBook b ≡ r → accepted (totalled t) ≡ summary r → Has b (t .tokens)
-    go (accepted ts) q e = record { tokens = ts; read = q; counted = ap countOf e }
-    go (refused k v) q e = absurd (let z : _≡_ {A = ℕ} 0 1 = cc in omega arith)
+has b t e = let s = summed b (totalled t) e in record { tokens = s .tokens; read = s .read; counted = ap (λ a. a .tokens) (s .sums) }
 
 module _ {book : List ℕ} {count : ℕ} (h : Has book count) (i : ℕ) where
   pub none : i ≡ 0 → missing ≡ placeIn (readBook book) i

@@ -1,7 +1,8 @@
--- What the tokens of an accepted book are: some, not too many nor too long, and no two alike; so they make a `Setting`.
+-- What the tokens of an accepted book are: some, not too many nor too long, and no two alike; so they make a `Setting`. And what a reader's
+-- answer says of the book.
 use Prim.Native.Nat.{ℕ, zero, suc, _+_, _-_, _≤_, _<_}
 use native.Mathlib.Omega.{arith}
-use mathlib.Core.Path.{_≡_, refl, sym}
+use mathlib.Core.Path.{_≡_, refl, ap, sym}
 use mathlib.Core.Bool.{false}
 use mathlib.Core.List.{List, [], _∷_, _++_}
 use lib.ListN.{length, getD, length-append}
@@ -11,8 +12,8 @@ use Rattle.rules.specs.Laws.Tests.{clash, anyOf-in}
 use Rattle.rules.specs.Laws.Endings.{same-refl}
 use Rattle.rules.specs.Laws.Lengths.{shortest-le, longest-ge, shortest-is, longest-is}
 use Rattle.rules.specs.Laws.Setting.{Setting}
-use Rattle.book.specs.Book.{accepted, maxTokens, maxBodies, maxBody, bodyAt, readBook}
-use Rattle.book.specs.Laws.Taken.{Taken, opened-range, opened-length, accepted-keeps}
+use Rattle.book.specs.Book.{Reading, accepted, refused, maxTokens, maxBodies, maxBody, bodyAt, readBook, Totals, totalsOf, summary}
+use Rattle.book.specs.Laws.Taken.{Taken, Closed, opened-range, opened-length, accepted-keeps}
 
 -- What holds of the tokens read so far.
 pub record Fit (tokens : List (List ℕ)) : Type 0 where
@@ -29,9 +30,12 @@ each-snoc P [] a f p (suc i) h = absurd (omega arith)
 each-snoc P (x ∷ l) a f p zero h = f 0 (omega arith)
 each-snoc P (x ∷ l) a f p (suc i) h = each-snoc (λ i. P (suc i)) l a (λ i h. f (suc i) (omega arith)) p i (omega arith)
 
+pub total-append : (ts us : List (List ℕ)) → total (ts ++ us) ≡ total ts + total us
+total-append [] us = omega arith
+total-append (t ∷ ts) us = omega (arith, total-append ts us)
+
 pub total-snoc : (l : List (List ℕ)) (a : List ℕ) → total (l ++ (a ∷ [])) ≡ total l + length a
-total-snoc [] a = omega arith
-total-snoc (x ∷ l) a = omega (arith, total-snoc l a)
+total-snoc l a = omega (arith, total-append l (a ∷ []))
 
 fit-snoc : (tokens : List (List ℕ)) (body : List ℕ) → Fit tokens → (1 ≤ length body) × (length body ≤ maxBody) → length tokens < maxTokens
     → total tokens + length body ≤ maxBodies → anyOf (same body) tokens ≡ false → Fit (tokens ++ (body ∷ []))
@@ -55,7 +59,7 @@ module _ (book : List ℕ) (tokens : List (List ℕ)) (read : readBook book ≡ 
       let long = opened-length book at (t .opened) in
       fit-snoc ts (bodyAt book at) f (rw long (opened-range book at (t .opened))) (t .few) (rw long (t .small)) (t .new)
 
-  read-all : ((at : ℕ) × Fit tokens × (at + 1 ≡ length book)) × (1 ≤ length tokens)
+  read-all : ((at : ℕ) × Fit tokens × Closed book at) × (1 ≤ length tokens)
   read-all =
       accepted-keeps book (λ _. Fit) more tokens read
       (record { each = λ i h. absurd (omega arith); count = omega arith; bodies = omega arith; distinct = λ i j h. absurd (omega arith) })
@@ -79,3 +83,24 @@ module _ (book : List ℕ) (tokens : List (List ℕ)) (read : readBook book ≡ 
 
   pub accepted-longest : (1 ≤ longestOf tokens) × (longestOf tokens ≤ maxBody)
   accepted-longest = let r = longest-is tokens accepted-some in omega (arith, accepted-fit .each (r .0) (r .1))
+
+-- The book is accepted, and these are its totals.
+pub record Summed (book : List ℕ) (totals : Totals) : Type 0 where
+  pub tokens : List (List ℕ)
+  pub read : readBook book ≡ accepted tokens
+  pub sums : totals ≡ totalsOf tokens
+
+pub summed : (book : List ℕ) (totals : Totals) → accepted totals ≡ summary (readBook book) → Summed book totals
+summed book totals = go (readBook book) refl
+  where
+    go : (r : Reading) → readBook book ≡ r → accepted totals ≡ summary r → Summed book totals
+    go (accepted tokens) e q = record { tokens = tokens; read = e; sums = cc }
+    go (refused k v) e q = absurd (let z : _≡_ {A = ℕ} 0 1 = cc in omega arith)
+
+pub summed-small : (book : List ℕ) (totals : Totals) → Summed book totals → totals .bodies ≤ maxBodies
+summed-small book totals s = omega (arith, ap (λ a. a .bodies) (s .sums), accepted-fit book (s .tokens) (s .read) .bodies)
+
+-- The book is refused.
+pub refused-as : (r : Reading) (k v : ℕ) → refused k v ≡ summary r → r ≡ refused k v
+refused-as (accepted tokens) k v q = absurd (let z : _≡_ {A = ℕ} 0 1 = cc in omega arith)
+refused-as (refused l w) k v q = cc

@@ -27,7 +27,7 @@ alike true x x' y y' f g = f refl
 alike false x x' y y' f g = g refl
 
 -- The ways on from a whole record, by the length of its body and the body.
-abbrev ways : (ℕ → List (List ℕ) → Reading) → ℕ → List (List ℕ) → ℕ → List ℕ → Reading
+abbrev pub ways : (ℕ → List (List ℕ) → Reading) → ℕ → List (List ℕ) → ℕ → List ℕ → Reading
 ways rest at ts size body =
     elim (leb maxTokens (length ts) || ltb maxBodies (total ts + size)) [
       | true ↦ refused 5 at
@@ -44,7 +44,7 @@ module _ (book : List ℕ) (fuel at : ℕ) (ts : List (List ℕ)) (h : at < leng
       rw (lt-leb (length book) at h, le-ltb 68 (kindAt book at) (omega arith), eq-eqb (kindAt book at) 0 z, readFrom)
       (rw (lt-ltb (at + 1) (length book) l, closed))
 
-  opening : Opened book at → readFrom book (suc fuel) at ts ≡ ways (readFrom book fuel) at ts (sizeAt book at) (bodyAt book at)
+  pub opening : Opened book at → readFrom book (suc fuel) at ts ≡ ways (readFrom book fuel) at ts (sizeAt book at) (bodyAt book at)
   opening o =
       rw (
         lt-leb (length book) at h,

@@ -7,9 +7,9 @@ use mathlib.Core.List.{List, [], _∷_, _++_}
 use borrow.Author.Tests.{le-leb}
 use lib.ListN.{length, getD, take, drop, length-append}
 use Rattle.rules.specs.Tokens.{total}
-use Rattle.book.specs.Book.{found, accepted, maxBody, sizeAt, bodyAt, wholeAt, readBook, placeIn}
+use Rattle.book.specs.Book.{found, accepted, maxBody, sizeAt, bodyAt, wholeAt, readBook, recordPlace, placeIn}
 use Rattle.book.specs.Laws.Accepted.{total-snoc}
-use Rattle.book.specs.Laws.Taken.{Opened, Taken, opened-range, opened-length, whole-is, accepted-keeps}
+use Rattle.book.specs.Laws.Taken.{Opened, Taken, Closed, opened-range, opened-length, whole-is, accepted-keeps}
 
 -- The record at place `at` has the body t.
 pub record Held (book : List ℕ) (at : ℕ) (t : List ℕ) : Type 0 where
@@ -62,7 +62,7 @@ records-at book at (t ∷ ts) zero e z h r = let z : e ≡ at = omega arith in r
 records-at book at (t ∷ ts) (suc i) e z h r = records-at book (at + 1 + length t) ts i e (omega arith) (omega arith) (r .1)
 
 module _ (book : List ℕ) (tokens : List (List ℕ)) (read : readBook book ≡ accepted tokens) where
-  upto-last : (at : ℕ) × Upto book at tokens × (at + 1 ≡ length book)
+  pub upto-last : (at : ℕ) × Upto book at tokens × Closed book at
   upto-last = accepted-keeps book (Upto book) (upto-more book) tokens read (record { place = omega arith; records = tt }) .0
 
   pub accepted-records : Records book 0 tokens
@@ -70,12 +70,14 @@ module _ (book : List ℕ) (tokens : List (List ℕ)) (read : readBook book ≡ 
 
   -- 00h closes the book.
   pub accepted-size : length book ≡ 1 + length tokens + total tokens
-  accepted-size = let e = upto-last in omega (arith, e .1 .place, e .2)
+  accepted-size = let e = upto-last in omega (arith, e .1 .place, e .2 .last)
 
   -- Where `placeIn` says that token number i stands, there it stands.
   module _ (i : ℕ) (h : 1 ≤ i) (k : i ≤ length tokens) where
     pub accepted-place : placeIn (readBook book) i ≡ found (i + total (take (i - 1) tokens)) (length (getD tokens (i - 1) []))
-    accepted-place = rw read (cc (le-leb 1 i h, le-leb i (length tokens) k))
+    accepted-place =
+        let z : recordPlace tokens (i - 1) + 1 ≡ i + total (take (i - 1) tokens) = omega arith in
+        rw read (cc (le-leb 1 i h, le-leb i (length tokens) k))
 
     pub accepted-body : take (length (getD tokens (i - 1) [])) (drop (i + total (take (i - 1) tokens)) book) ≡ getD tokens (i - 1) []
     accepted-body =

@@ -2,10 +2,10 @@
 use Prim.Native.Nat.{ℕ, zero, suc, _+_, _-_, _≤_, _<_}
 use native.Mathlib.Omega.{arith}
 use native.Mathlib.Nat.{pow-le-pow-right}
-use mathlib.Core.Path.{_≡_, refl}
+use mathlib.Core.Path.{_≡_, refl, ap}
 use mathlib.Core.Bool.{false, _||_}
 use mathlib.Core.List.{List, [], _∷_, _++_}
-use borrow.Author.Tests.{leb-true, leb-false, ltb-false, eqb-false, lt-leb, le-ltb}
+use borrow.Author.Tests.{leb-true, leb-false, ltb-false, eqb-true, eqb-false, lt-leb, le-ltb}
 use lib.Dec.{leb}
 use lib.ListN.{length, length-take, length-drop}
 use Rattle.rules.specs.Tokens.{total}
@@ -32,6 +32,12 @@ module _ (book : List ℕ) (at : ℕ) where
 
   pub whole-none : (Whole → ⊥) → wholeAt book at ≡ 0
   whole-none f = whole-cases (λ n. n ≡ 0) (λ _. refl) (λ w. absurd (f w))
+
+  pub whole-closed : kindAt book at ≡ 0 → wholeAt book at ≡ 0
+  whole-closed z = whole-cases (λ n. n ≡ 0) (λ _. refl) (λ _. ap bodyLength z)
+
+  pub whole-some : 1 ≤ wholeAt book at → Whole
+  whole-some = whole-cases (λ n. 1 ≤ n → Whole) (λ _ h. absurd (omega arith)) (λ w _. w)
 
   -- It never reaches past the end.
   pub whole-inside : at < length book → at + 1 + wholeAt book at ≤ length book
@@ -68,31 +74,36 @@ module _ (book : List ℕ) (at : ℕ) (o : Opened book at) where
   pub opened-length : length (bodyAt book at) ≡ sizeAt book at
   opened-length = simp (length-take, length-drop) (omega arith)
 
+-- The last byte of the book, at place `at`, is 00h.
+pub record Closed (book : List ℕ) (at : ℕ) : Type 0 where
+  pub last : at + 1 ≡ length book
+  pub zero : kindAt book at ≡ 0
+
 -- What each record that is taken hands on holds in the end, at the last byte, which closes the book.
 module _ (book : List ℕ) (P : ℕ → List (List ℕ) → Type 0)
     (more : (at : ℕ) (ts : List (List ℕ)) → Taken book at ts → P at ts → P (at + 1 + sizeAt book at) (ts ++ (bodyAt book at ∷ []))) where
   module _ (tokens : List (List ℕ)) where
     abbrev Result : Reading → Type 0
-    Result r = r ≡ accepted tokens → ((at : ℕ) × P at tokens × (at + 1 ≡ length book)) × (1 ≤ length tokens)
+    Result r = r ≡ accepted tokens → ((at : ℕ) × P at tokens × Closed book at) × (1 ≤ length tokens)
 
     refuses : (k v : ℕ) → Result (refused k v)
     refuses k v e = absurd (let z : _≡_ {A = ℕ} 0 1 = cc in omega arith)
 
-    closed-keeps : (at : ℕ) (ts : List (List ℕ)) → at < length book → P at ts → Result (closed book at ts)
-    closed-keeps at ts h p =
+    closed-keeps : (at : ℕ) (ts : List (List ℕ)) → at < length book → kindAt book at ≡ 0 → P at ts → Result (closed book at ts)
+    closed-keeps at ts h z p =
         decide Result (trailing book at) _ _ (λ _. refuses 3 (at + 1))
         (λ l. decide Result (noToken ts) _ _ (λ _. refuses 6 0)
         (λ e.
         let last : at + 1 ≡ length book = omega (arith, ltb-false (at + 1) (length book) l) in
         let some : 1 ≤ length ts = omega (arith, eqb-false (length ts) 0 e) in
-        λ q. let z : tokens ≡ ts = cc in rw z ((at, p, last), some)))
+        λ q. let e : tokens ≡ ts = cc in rw e ((at, p, record { last = last; zero = z }), some)))
 
     read-keeps : (fuel at : ℕ) (ts : List (List ℕ)) → P at ts → Result (readFrom book fuel at ts)
     read-keeps zero at ts p = refuses 1 (length book)
     read-keeps (suc fuel) at ts p =
         decide Result (kindMissing book at) _ _ (λ _. refuses 1 (length book))
         (λ a. decide Result (kindUnknown book at) _ _ (λ _. refuses 2 at)
-        (λ b. decide Result (closes book at) _ _ (λ _. closed-keeps at ts (leb-false (length book) at a) p)
+        (λ b. decide Result (closes book at) _ _ (λ c. closed-keeps at ts (leb-false (length book) at a) (eqb-true (kindAt book at) 0 c) p)
         (λ c. decide Result (bodyShort book at) _ _ (λ _. refuses 1 at)
         (λ d. decide Result (overLimits book at ts) _ _ (λ _. refuses 5 at)
         (λ e. decide Result (repeats book at ts) _ _ (λ _. refuses 4 at)
@@ -111,5 +122,5 @@ module _ (book : List ℕ) (P : ℕ → List (List ℕ) → Type 0)
         read-keeps fuel (at + 1 + sizeAt book at) (ts ++ (bodyAt book at ∷ [])) (more at ts t p)))))))
 
   pub accepted-keeps : (tokens : List (List ℕ)) → readBook book ≡ accepted tokens → P 0 []
-      → ((at : ℕ) × P at tokens × (at + 1 ≡ length book)) × (1 ≤ length tokens)
+      → ((at : ℕ) × P at tokens × Closed book at) × (1 ≤ length tokens)
   accepted-keeps tokens read p = read-keeps tokens (suc (length book)) 0 [] p read

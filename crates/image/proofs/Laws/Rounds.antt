@@ -5,7 +5,7 @@ use mathlib.Core.Path.{_≡_, refl, ap, sym, _∙_}
 use mathlib.Core.List.{List, [], _∷_, _++_, map, map-append}
 use lib.ListN.{length, take, length-map}
 use Rattle.book.specs.Book.{maxImage, maxBody}
-use Rattle.tables.specs.Tables.{over}
+use Rattle.rules.specs.Lists.{over}
 use Rattle.whole.specs.Image.{room, hitsOf, fetchesOf, noted}
 use Rattle.image.specs.Spans.{inUse}
 use Rattle.image.specs.Rule5.{tokensOf}

@@ -9,10 +9,9 @@ use lib.ListN.{length, take, drop, length-append, length-take, length-drop, leng
 use Rattle.rules.specs.Tokens.{total}
 use Rattle.rules.specs.Laws.Tests.{decide}
 use Rattle.book.specs.Book.{Verdict, Reading, accepted, refused, Totals, summary, readBook, maxImage}
-use Rattle.book.specs.Laws.Accepted.{accepted-fit}
+use Rattle.book.specs.Laws.Accepted.{Summed, accepted-fit}
 use Rattle.tables.specs.Tables.{Tables, nodes, built, Lent, written, tooShort, shortestTable, Sizes, Building, build}
 use Rattle.tables.specs.Laws.Made.{sizesOf, written-lent, answerTo, build-made}
-use Rattle.trie.specs.Laws.Answer.{Summed}
 use Rattle.tables.specs.Laws.Represents.{built-represents}
 use Rattle.whole.specs.Image.{Swept, tooLong, room, hitsOf, fetchesOf, counted, noted, sweepImage}
 use Rattle.image.specs.Results.{refusalFor}

@@ -4,7 +4,7 @@ use mathlib.Core.Path.{refl, ap, sym, _∙_}
 use borrow.Author.Needs.{needs}
 use Rattle.book.specs.Book as book
 use Rattle.book.specs.Answers.{refusalOf, totalled, verdictOf}
-use Rattle.trie.specs.Laws.Answer.{Summed, summed, summed-small}
+use Rattle.book.specs.Laws.Accepted.{Summed, summed, summed-small}
 use Rattle.image.proofs.Laws.SweepImage.{refusal-unread, refusal-short, refusal-long}
 use Rattle.image.proofs.refuse.Statement.{statement}
 use Rattle.image.proofs.refuse.Tie as tie

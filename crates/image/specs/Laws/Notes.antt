@@ -11,7 +11,7 @@ use lib.Dec.{ltb}
 use lib.ListN.{length, take, set, length-set, length-take}
 use lib.Seq.{sets, sets-eq, take-nil}
 use Rattle.rules.specs.Laws.Tests.{decide}
-use Rattle.tables.specs.Tables.{over}
+use Rattle.rules.specs.Lists.{over}
 use Rattle.image.specs.Walk.{note, notes}
 
 pub note-in : (room i x : ℕ) (l : List ℕ) → i < room → set l i x ≡ note room i x l

@@ -12,7 +12,7 @@ use Rattle.rules.specs.Laws.Tests.{decide}
 use Rattle.rules.specs.Laws.All.{All, all-append}
 use Rattle.rules.specs.Laws.Exact.{happens-exact}
 use Rattle.rules.specs.Laws.Exact.Reads.{byteOf, reads-eq, stands→reads}
-use Rattle.rules.specs.Laws.Rising.{select-out}
+use Rattle.rules.specs.Laws.Members.{select-out}
 use Rattle.book.specs.Book.{readBook, accepted, bodyLength, kindAt, bodyAt, sizeAt}
 use Rattle.book.specs.Laws.Taken.{Taken, opened-length, accepted-keeps}
 use Rattle.book.specs.Laws.Accepted.{accepted-setting}

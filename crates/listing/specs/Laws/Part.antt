@@ -12,7 +12,8 @@ use Rattle.rules.specs.Sweep.{Stands, further, hitsOf}
 use Rattle.rules.specs.Laws.Setting.{Setting}
 use Rattle.rules.specs.Laws.Exact.{happens-exact}
 use Rattle.rules.specs.Laws.Exact.Reads.{byteOf, stands→reads, reads→stands}
-use Rattle.rules.specs.Laws.Rising.{select-in, select-out, rising-moved, rising-select, same-members}
+use Rattle.rules.specs.Laws.Members.{select-in, select-out}
+use Rattle.rules.specs.Laws.Rising.{rising-moved, rising-select, same-members}
 use Rattle.listing.specs.Parts.{between, past, upTo}
 
 pub pair : (g h : ℕ × ℕ) → g .0 ≡ h .0 → g .1 ≡ h .1 → g ≡ h

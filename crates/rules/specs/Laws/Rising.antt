@@ -2,8 +2,8 @@
 -- before the other, and moving both by as much changes nothing.
 use Prim.Native.Nat.{ℕ}
 use native.Mathlib.Omega.{arith}
-use mathlib.Core.Path.{_≡_, refl, ap, sym, subst, _∙_}
-use mathlib.Core.Bool.{Bool, true, false}
+use mathlib.Core.Path.{_≡_, refl, sym, subst, _∙_}
+use mathlib.Core.Bool.{Bool}
 use mathlib.Core.Logic.{_⊎_, inl, inr}
 use mathlib.Core.List.{List, [], _∷_, map, List·Memᴰ, List·Memᴰ·head, List·Memᴰ·tail, List·Memᴰ·not-nil, List·Memᴰ·cases-cons}
 use Rattle.rules.specs.Lists.{select}
@@ -12,23 +12,6 @@ use Rattle.rules.specs.Laws.Tests.{decide}
 use Rattle.rules.specs.Laws.All.{All, all-select}
 use Rattle.rules.specs.Laws.Exact.{all-mem}
 use Rattle.rules.specs.Laws.Exact.Events.{lengthOf, Later, Rising}
-
--- The members of a filtered list are those that pass.
-module _ {A : Type 0} (p : A → Bool) where
-  pub select-in : (a : A) (l : List A) → List·Memᴰ a l → p a ≡ true → List·Memᴰ a (select p l)
-  select-in a (x ∷ l) (List·Memᴰ·head e) t =
-      decide (List·Memᴰ a) (p x) _ _ (λ _. List·Memᴰ·head e) (λ f. absurd (let z : _≡_ {A = ℕ} 0 1 = cc in omega arith))
-  select-in a (x ∷ l) (List·Memᴰ·tail m) t =
-      decide (List·Memᴰ a) (p x) _ _ (λ _. List·Memᴰ·tail (select-in a l m t)) (λ _. select-in a l m t)
-
-  pub select-out : (a : A) (l : List A) → List·Memᴰ a (select p l) → List·Memᴰ a l × (p a ≡ true)
-  select-out a [] m = absurd (List·Memᴰ·not-nil m)
-  select-out a (x ∷ l) m = go (p x) refl (select-out a l) m
-    where
-      go : (b : Bool) → p x ≡ b → (List·Memᴰ a (select p l) → List·Memᴰ a l × (p a ≡ true))
-          → List·Memᴰ a (elim b [ true ↦ x ∷ select p l | false ↦ select p l ]) → List·Memᴰ a (x ∷ l) × (p a ≡ true)
-      go true e f m = elim (List·Memᴰ·cases-cons m) [ inl q ↦ (List·Memᴰ·head q, ap p q ∙ e) | inr k ↦ (List·Memᴰ·tail (f k .0), f k .1) ]
-      go false e f m = (List·Memᴰ·tail (f m .0), f m .1)
 
 module _ (tokens : List (List ℕ)) where
   -- hit g comes before hit h

@@ -117,6 +117,10 @@ pub every-all : (n : ℕ) (p : ℕ → Bool) → ((k : ℕ) → k < n → p k �
 every-all zero p f = refl
 every-all (suc n) p f = cc (f n (omega arith), every-all n p (λ k h. f k (omega arith)))
 
+pub every-at : (n : ℕ) (p : ℕ → Bool) → every n p ≡ true → (k : ℕ) → k < n → p k ≡ true
+every-at zero p t k h = absurd (omega arith)
+every-at (suc n) p t k h = below-suc k n h (every-at n p (and-r (p n) _ t) k) (λ e. rw e (and-l (p n) _ t))
+
 -- `least` is no smaller than where it starts, no larger than where it stops, nor than any number between that passes.
 pub least-ge : (p : ℕ → Bool) (i fuel : ℕ) → i ≤ least p i fuel
 least-ge p i zero = omega arith
@@ -131,6 +135,16 @@ least-le p i zero s h t = h
 least-le p i (suc fuel) s h t =
     decide (λ m. m ≤ s) (p i) _ _ (λ _. h)
     (λ f. let ne : i ≡ s → ⊥ = λ e. clash (p i) (ap p e ∙ t) f in least-le p (i + 1) fuel s (omega arith) t)
+
+-- It is the number that passes, or at which it stops, if none before does.
+pub least-is : (p : ℕ → Bool) (i fuel s : ℕ) → i ≤ s → s ≤ i + fuel → ((j : ℕ) → i ≤ j → j < s → p j ≡ false) → (s < i + fuel → p s ≡ true)
+    → least p i fuel ≡ s
+least-is p i zero s h k f g = omega arith
+least-is p i (suc fuel) s h k f g =
+    decide (λ m. m ≡ s) (p i) _ _ (λ t. split i s (λ e. e) (λ n. absurd (clash (p i) t (f i (omega arith) (omega arith)))))
+    (λ t.
+    let n : i ≡ s → ⊥ = λ e. clash (p i) (ap p e ∙ g (omega arith)) t in
+    least-is p (i + 1) fuel s (omega arith) (omega arith) (λ j l. f j (omega arith)) (λ l. g (omega arith)))
 
 pub least-same : (p q : ℕ → Bool) → ((s : ℕ) → p s ≡ q s) → (i fuel : ℕ) → least p i fuel ≡ least q i fuel
 least-same p q f i zero = refl

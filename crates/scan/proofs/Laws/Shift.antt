@@ -9,12 +9,12 @@ use mathlib.Core.Option.{Option}
 use lib.Bits.{bitOr, or-add-and, and-le-l, and-le-r}
 use lib.ListN.{length, getD, take, drop, length-append, length-drop}
 use lib.Seq.{take-at}
-use Rattle.rules.specs.Lists.{every, least}
+use Rattle.rules.specs.Lists.{every, least, over}
 use Rattle.rules.specs.Laws.Tests.{split, least-ge, least-upto}
 use Rattle.rules.specs.Tokens.{fromRight, agrees, byteShift, shiftOf}
 use Rattle.agree.specs.Tests.{nodeTest, byteTest, leastOf}
 use Rattle.agree.specs.Laws.Least.{least-none, least-token}
-use Rattle.tables.specs.Tables.{Tables, over}
+use Rattle.tables.specs.Tables.{Tables}
 use Rattle.tables.specs.Walks.{ending, depth, words}
 use Rattle.trie.specs.Answers.{tables}
 use Rattle.scan.specs.Ways.{paths}

@@ -8,7 +8,7 @@ use mathlib.Core.List.{List, [], _∷_}
 use lib.ListN.{length, getD, set}
 use lib.Seq.{sets, sets-eq}
 use Rattle.rules.specs.Laws.Tests.{split}
-use Rattle.tables.specs.Tables.{over}
+use Rattle.rules.specs.Lists.{over}
 use Rattle.tables.specs.Walks.{ending, depth, lifted}
 use Rattle.tables.specs.Laws.Shape.{Falling, way-step}
 use Rattle.scan.specs.Ways.{paths, Rises, Along, Run}

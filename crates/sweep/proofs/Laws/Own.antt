@@ -13,9 +13,8 @@ use Rattle.book.specs.Answers.{refusalOf, totalled}
 use Rattle.book.specs.declared.Totals.{Totals as Sums}
 use Rattle.book.specs.declared.Refusal.{Refusal}
 use Rattle.book.specs.declared.Refusal.the-variants.{Unfinished, UnknownKind, Trailing, Repeat, OverLimits, NoToken}
-use Rattle.book.specs.Laws.Accepted.{accepted-fit}
+use Rattle.book.specs.Laws.Accepted.{summed, accepted-fit}
 use Rattle.tables.specs.Tables.{Tables, built, written, shortestTable}
-use Rattle.trie.specs.Laws.Answer.{summed}
 use Rattle.image.specs.declared.Swept.{Swept as Answer}
 use Rattle.whole.specs.Image.{room, hitsOf, fetchesOf, counted, noted, sweepImage}
 use Rattle.image.specs.declared.Swept.the-variants.{Unread, TooShort, TooLong}

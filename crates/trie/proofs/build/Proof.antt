@@ -4,9 +4,10 @@ use mathlib.Core.Path.{ap, sym, _∙_}
 use borrow.Author.Needs.{needs}
 use Rattle.book.specs.Book as book
 use Rattle.book.specs.Answers.{refusalOf, totalled, verdictOf}
+use Rattle.book.specs.Laws.Accepted.{Summed, summed, summed-small}
 use Rattle.tables.specs.Tables.{Tables}
 use Rattle.trie.specs.Answers.{tables}
-use Rattle.trie.specs.Laws.Answer.{Summed, summed, summed-small, fillable, answer-unread, answer-short, answer-made}
+use Rattle.trie.specs.Laws.Answer.{fillable, answer-unread, answer-short, answer-made}
 use Rattle.trie.proofs.build.Statement.{statement}
 use Rattle.trie.proofs.build.Tie as tie
 

@@ -1,36 +1,20 @@
 -- What building answers, from what reading the book answered.
 use Prim.Native.Nat.{ℕ, _+_, _≤_, _<_}
 use native.Mathlib.Omega.{arith}
-use mathlib.Core.Path.{_≡_, refl, ap, sym, _∙_}
+use mathlib.Core.Path.{_≡_, ap, sym, _∙_}
 use mathlib.Core.Bool.{true, false}
 use mathlib.Core.List.{List}
 use borrow.Author.Tests.{lt-ltb, le-ltb}
 use Rattle.rules.specs.Tokens.{total}
-use Rattle.book.specs.Book.{Reading, accepted, refused, Totals, totalsOf, summary, readBook, maxBodies}
-use Rattle.book.specs.Laws.Accepted.{accepted-fit}
+use Rattle.book.specs.Book.{Reading, accepted, refused, Totals, summary, readBook}
+use Rattle.book.specs.Laws.Accepted.{Summed}
 use Rattle.tables.specs.Tables.{Tables, shortestTable, tooShort, written, built, build}
 use Rattle.trie.specs.InPlace.{Room, Counted, filled}
 use Rattle.tables.specs.Laws.Made.{sizesOf, answerTo}
 use Rattle.trie.specs.Laws.TokensInPlace.{Fillable}
 
--- The book is accepted, and these are its totals.
-pub record Summed (book : List ℕ) (totals : Totals) : Type 0 where
-  pub tokens : List (List ℕ)
-  pub read : readBook book ≡ accepted tokens
-  pub sums : totals ≡ totalsOf tokens
-
-pub summed-small : (book : List ℕ) (totals : Totals) → Summed book totals → totals .bodies ≤ maxBodies
-summed-small book totals s = omega (arith, ap (λ a. a .bodies) (s .sums), accepted-fit book (s .tokens) (s .read) .bodies)
-
 shortest-room : (t : Tables) (n : ℕ) → n ≤ shortestTable t → Room t n
 shortest-room t n h = record { parents = omega arith; labels = omega arith; tokens = omega arith; firsts = omega arith; nexts = omega arith }
-
-pub summed : (book : List ℕ) (totals : Totals) → accepted totals ≡ summary (readBook book) → Summed book totals
-summed book totals = go (readBook book) refl
-  where
-    go : (r : Reading) → readBook book ≡ r → accepted totals ≡ summary r → Summed book totals
-    go (accepted tokens) e q = record { tokens = tokens; read = e; sums = cc }
-    go (refused k v) e q = absurd (let z : _≡_ {A = ℕ} 0 1 = cc in omega arith)
 
 module _ (book : List ℕ) (t : Tables) where
   -- refusals 1 to 6

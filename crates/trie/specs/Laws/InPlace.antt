@@ -8,7 +8,8 @@ use borrow.Author.Tests.{eq-eqb, ne-eqb}
 use lib.ListN.{length, take, set, length-append}
 use lib.Seq.{length-take-le, getD-take}
 use Rattle.rules.specs.Laws.Tests.{split}
-use Rattle.tables.specs.Tables.{Tables, written, over}
+use Rattle.rules.specs.Lists.{over}
+use Rattle.tables.specs.Tables.{Tables, written}
 use Rattle.tables.specs.Walks.{childBy}
 use Rattle.trie.specs.Answers.{tables}
 use Rattle.trie.specs.Chain.{walked}

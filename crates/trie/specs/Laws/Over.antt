@@ -1,11 +1,13 @@
 -- Lists and tables with others written over their fronts.
-use Prim.Native.Nat.{ℕ, suc, _+_, _-_, _≤_, _<_}
+use Prim.Native.Nat.{ℕ, suc, _≤_, _<_}
 use native.Mathlib.Omega.{arith}
-use mathlib.Core.Path.{_≡_, refl, ap, sym, _∙_}
+use mathlib.Core.Path.{_≡_, refl, sym}
 use mathlib.Core.List.{List, [], _∷_, _++_}
-use lib.ListN.{length, getD, take, drop, set, length-append, length-set, length-drop, take-append-drop, List·getD-append}
-use lib.Seq.{length-take-le, take-at, drop-append-add, drop-drop, append-snoc, set-split, set-comm, set-append-left, take-set-lt, drop-set-lt, getD-take}
-use Rattle.tables.specs.Tables.{Tables, over, written}
+use lib.ListN.{length, getD, take, drop, set, length-append, length-set, take-append-drop, List·getD-append}
+use lib.Seq.{length-take-le, take-at, append-snoc, set-split, set-comm, set-append-left, take-set-lt, drop-set-lt, getD-take}
+use Rattle.rules.specs.Lists.{over}
+use Rattle.rules.specs.Laws.Over.{over-length, over-over}
+use Rattle.tables.specs.Tables.{Tables, written}
 use Rattle.trie.specs.InPlace.{Room, cut}
 use Rattle.tables.specs.Laws.Shape.{alike, Shape}
 use Rattle.tables.specs.Laws.NodeAdded.{Sized}
@@ -28,17 +30,8 @@ room-less t n m h r = record {
   nexts = omega (arith, r .nexts);
 }
 
-over-length : (m l : List ℕ) → length m ≤ length l → length (over m l) ≡ length l
-over-length m l h = simp (length-append, length-drop) (omega arith)
-
 over-take : (n : ℕ) (l : List ℕ) → n ≤ length l → over (take n l) l ≡ l
 over-take n l h = rw (length-take-le n l h) (take-append-drop n l)
-
-over-over : (m m′ l : List ℕ) → length m ≤ length m′ → over m′ (over m l) ≡ over m′ l
-over-over m m′ l h =
-    let k = length m′ - length m in
-    let e : length m′ ≡ length m + k = omega arith in
-    ap (λ d. m′ ++ d) (rw e (drop-append-add m (drop (length m) l) k ∙ drop-drop k (length m) l))
 
 -- a store at the end appends, where the tail is as it was
 push-over : (n y : ℕ) (l l′ : List ℕ) → n < length l′ → drop (suc n) l ≡ drop (suc n) l′ → over (take n l′ ++ (y ∷ [])) l ≡ set l′ n y

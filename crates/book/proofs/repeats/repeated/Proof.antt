@@ -1,10 +1,12 @@
--- `repeats::repeated` meets its contract: the copy holds the body.
+-- `repeats::repeated` meets its contract: the copy holds the body, and the bodies before the record are the tokens read so far.
 use borrow.Author.Needs.{needs}
 use Prim.Native.Nat.{ℕ, _+_, _-_, _≤_}
 use native.Mathlib.Omega.{arith}
 use mathlib.Core.List.{List}
 use mathlib.Core.Path.{_≡_, ap, sym, _∙_}
 use lib.ListN.{length, take, drop, length-take, length-drop}
+use lib.Seq.{length-take-le}
+use Rattle.book.specs.Laws.Bodies.{upto-bodies}
 use Rattle.book.proofs.repeats.repeated.Statement.{statement}
 use Rattle.book.proofs.repeats.repeated.Tie as tie
 
@@ -37,21 +39,29 @@ part-copied-end c = search needs
 copied-requires : tie.Need-copied-requires
 copied-requires c κs = search needs
 
+slice-aggregate-contains : tie.Need-slice-aggregate-contains
+slice-aggregate-contains c =
+    let a = c .before .before .before .before .args in
+    sym (length-take-le (a .at) (a .book .now) (omega arith))
+
 array-share-prefix-own : tie.Need-array-share-prefix-own
 array-share-prefix-own c = search needs
 
-slice-aggregate-earlier : tie.Need-slice-aggregate-earlier
-slice-aggregate-earlier c =
-    let a = c .before .before .before .before .args in
-    sym (ap length (copy (a .book .now) _ (a .at) (a .size) (omega arith) (c .before .copied .ensures)) ∙ long (a .book .now) (a .at) (a .size) (omega arith))
+slice-aggregate-contains-2 : tie.Need-slice-aggregate-contains-2
+slice-aggregate-contains-2 c =
+    let a = c .before .before .before .before .before .args in
+    sym (ap length (copy (a .book .now) _ (a .at) (a .size) (omega arith) (c .before .before .copied .ensures)) ∙ long (a .book .now) (a .at) (a .size) (omega arith))
 
-earlier-requires : tie.Need-earlier-requires
-earlier-requires c κs = search needs
+contains-requires : tie.Need-contains-requires
+contains-requires c κs = search needs
 
 returns : tie.Need-returns
 returns c = λ ts u.
-    let a = c .before .before .before .before .before .args in
-    rw (← copy (a .book .now) _ (a .at) (a .size) (omega arith) (c .before .before .copied .ensures)) (c .earlier .ensures ts u)
+    let a = c .before .before .before .before .before .before .args in
+    rw (
+      ← copy (a .book .now) _ (a .at) (a .size) (omega arith) (c .before .before .before .copied .ensures),
+      ← upto-bodies (a .book .now) (a .at) ts (omega arith) u,
+    ) (c .contains .ensures)
 
 pub repeated-spec : {M : Type 1} → statement M
 repeated-spec =
@@ -63,7 +73,8 @@ repeated-spec =
     part-copied-start
     part-copied-end
     copied-requires
+    slice-aggregate-contains
     array-share-prefix-own
-    slice-aggregate-earlier
-    earlier-requires
+    slice-aggregate-contains-2
+    contains-requires
     returns)

@@ -1,0 +1,246 @@
+#!/usr/bin/env python3
+"""Compares the proved merge of two books with the plain one: every answer, and all that the output then holds, with what lies around it and
+the two books. The pairs of books.py come first, with outputs of lengths about the one needed; they must be as many as COUNTS says and meet
+all that `wanted` names; then fresh random ones. Some of these are swept with both books and the merged one, by single bytes and as a whole:
+the merged book finds, by token bytes, what the two find, and each hit once. Fails at the first difference and says where.
+
+  plain/merge.py            with a new seed, which it prints
+  plain/merge.py --seed N   the random cases of that seed again
+"""
+import argparse
+import collections
+import itertools
+import random
+import sys
+
+import books
+import calls
+import proved
+import sweep
+import tables
+from calls import Differs, told
+from proved import BYTES, HITS, NUMBERS, Byte, Lent
+
+COUNTS = (172, 739)  # pairs, and merges of them
+FRESH, SWEPT = 4200, 300  # random pairs, and those of them that are swept
+LONGEST = 2000  # bytes of a merged book to sweep with: a step goes over all its nodes
+
+# What the fixed pairs met, by name; and the hits found with merged books.
+seen = collections.Counter()
+found = 0
+
+
+def held(room):
+    """What an output holds before the call."""
+    return bytes((7 * i + 165) % 256 for i in range(room))
+
+
+def merge_case(first, second, room):
+    out, answer = held(room), tables.merge(first, second, room)
+    lent = [Lent(BYTES, x) for x in (first, second, out)]
+    if answer[0] == "refused":
+        calls.expect("probe_merge", lent, told(0, *answer[1:]))
+    else:
+        book = answer[1]
+        calls.expect("probe_merge", lent, told(1, len(book)), [(2, book + out[len(book) :])])
+
+
+# What a pair meets
+
+
+def at_limits(bodies):
+    """The limits that these bodies just keep."""
+    return ["256 tokens"] * (len(bodies) == 256) + ["16,384 body bytes"] * (sum(map(len, bodies)) == 16384)
+
+
+def over(tokens, others, place):
+    """How the record at a place of the second book, with these others as its bodies, brings the merged book over its limits."""
+    places = list(itertools.accumulate((1 + len(body) for body in others), initial=0))
+    i = places.index(place)
+    before = tokens + [body for body in others[:i] if body not in tokens]
+    bodies = sum(map(len, before)) + len(others[i])
+    yield "5 by tokens" if len(before) == 256 and bodies <= 16384 else "5 by bodies" if len(before) < 256 else "5 by both"
+    yield from ["5 by one byte"] * (bodies == 16385)
+    yield from ["5 at the first record"] * (i == 0)
+    yield from ["5 behind a new token"] * (len(before) > len(tokens))
+    yield from ["5 behind a common token"] * (len(before) - len(tokens) < i)
+    if i > 0 and others[i - 1] in tokens:
+        yield from (f"5 behind a common token at {limit}" for limit in at_limits(before))
+    yield from ["5 before a record that would fit"] * any(bodies - len(others[i]) + len(body) <= 16384 for body in others[i + 1 :])
+
+
+def written(tokens, others, needed, room):
+    """What is met where both books can be merged."""
+    new = [body for body in others if body not in tokens]
+    if room < needed:
+        yield from ["14"] + ["14 by one byte"] * (room == needed - 1) + ["14 with no room"] * (room == 0)
+        return
+    yield "nothing new" if not new else "nothing common" if len(new) == len(others) else "new and common"
+    yield from at_limits(tokens + new)
+    yield from (f"nothing new at {limit}" for limit in at_limits(tokens))
+    yield "bytes behind" if room > needed else "no byte behind"
+
+
+def causes(first, second, room):
+    """What a pair meets, by name."""
+    reading, other, answer = tables.read(first), tables.read(second), tables.merge(first, second, room)
+    refusal = f"{reading[1]} of the first book" if reading[0] == "refused" else f"13 with {other[1]}" if other[0] == "refused" else None
+    if refusal:
+        new = [body for body in tables.whole_bodies(second) if not tables.contains(first, body)]
+        yield refusal
+        yield from [f"{refusal}, before 14"] * (room == 0)
+        yield from [f"{refusal}, before 13"] * (reading[0] == other[0])
+        yield from ["13 before 5"] * (reading[0] == "accepted" and len(reading[1]) == 256 and new != [])
+    elif answer[:2] == ("refused", 5):
+        yield from over(reading[1], other[1], answer[2])
+        yield from ["5 before 14"] * (room == 0)
+    else:
+        yield from written(reading[1], other[1], answer[2] if answer[0] == "refused" else len(answer[1]), room)
+
+
+def wanted():
+    for n in range(1, 7):
+        yield from (f"{n} of the first book", f"{n} of the first book, before 13", f"{n} of the first book, before 14")
+        yield from (f"13 with {n}", f"13 with {n}, before 14")
+    yield from ("13 before 5", "5 by tokens", "5 by bodies", "5 by both", "5 by one byte", "5 at the first record", "5 behind a new token")
+    yield from ("5 behind a common token", "5 before a record that would fit", "5 before 14")
+    for limit in ("256 tokens", "16,384 body bytes"):
+        yield from (limit, f"5 behind a common token at {limit}", f"nothing new at {limit}")
+    yield from ("14", "14 by one byte", "14 with no room")
+    yield from ("nothing new", "nothing common", "new and common", "bytes behind", "no byte behind")
+
+
+# Sweeps with the two books and with the merged one
+
+
+def by_bytes(book, image):
+    """The hits (end, token) of the sweep by single bytes."""
+    lent, state, slices = Lent(BYTES, book), Lent(NUMBERS, [0] * 23), calls.lend([[0] * len(book)] * 5)
+    _, nodes, shortest, *_ = proved.call("probe_build", lent, *slices)
+    proved.call("probe_start", state, len(image), shortest, nodes)
+    hits, (kind, *values) = [], proved.call("probe_carry_on", state, *slices)
+    while kind != calls.KIND["done"]:
+        if kind == calls.KIND["fetch"]:
+            kind, *values = proved.call("probe_supply", state, *slices, Byte(image[values[0]]))
+        elif kind == calls.KIND["hit"]:
+            hits.append(tuple(values[:2]))
+            kind, *values = proved.call("probe_carry_on", state, *slices)
+        else:
+            raise Differs(f"the sweep by single bytes is refused: {values}")
+    return hits
+
+
+def as_a_whole(book, image):
+    """Those of the gateway's sweep."""
+    most = len(image) * len(tables.read(book)[1])
+    ends, tokens = Lent(HITS, [0] * most), Lent(HITS, [0] * most)
+    refusal, value, hits, _ = proved.sweep(Lent(BYTES, book), Lent(BYTES, image), *calls.lend([[0] * len(book)] * 5), ends, tokens)
+    if refusal:
+        raise Differs(f"the sweep of the whole image is refused: {refusal} {value}")
+    return list(zip(ends.content()[:hits], tokens.content()[:hits]))
+
+
+def by_search(book, image):
+    return sweep.search(tables.read(book)[1], image)
+
+
+def swept(book, image):
+    """The hits as pairs of end and token bytes; every way of sweeping finds the same, and none twice."""
+    bodies, ways = tables.read(book)[1], []
+    for way in (by_search, by_bytes, as_a_whole):
+        hits = [(end, bodies[number - 1]) for end, number in way(book, image)]
+        if len(set(hits)) < len(hits):
+            raise Differs(f"{way.__name__} finds a hit twice: {sorted(hits)}")
+        ways.append(set(hits))
+        if ways[0] != ways[-1]:
+            raise Differs(f"{way.__name__} finds others than a search: {sorted(ways[0] ^ ways[-1])}")
+    return ways[0]
+
+
+def union_case(first, second, image):
+    global found
+    out = Lent(BYTES, held(len(first) + len(second)))
+    kind, length, *_ = proved.call("probe_merge", Lent(BYTES, first), Lent(BYTES, second), out)
+    if kind != 1:
+        raise Differs("the books are not merged")
+    merged, both = swept(bytes(out.content()[:length]), image), swept(first, image) | swept(second, image)
+    found += len(merged)
+    if merged != both:
+        raise Differs(f"the merged book finds others than the two: {sorted(merged ^ both)}")
+
+
+# All cases
+
+
+def rooms(first, second):
+    """The lengths of the outputs that a pair is tried with."""
+    most = len(first) + len(second)
+    answer = tables.merge(first, second, most)
+    if answer[0] == "refused":
+        return [0, 1, most]
+    needed = len(answer[1])
+    return sorted({0, *range(0 if needed < 30 else needed - 3, needed + 4), most})
+
+
+def fixed():
+    for first, second in books.pairs():
+        for room in rooms(first, second):
+            yield merge_case, (first, second, room)
+
+
+def fresh(rng):
+    left = SWEPT
+    for i in range(FRESH):
+        first, second = books.some_pair(rng, books.SHAPES[i % len(books.SHAPES)])
+        most = len(first) + len(second)
+        answer = tables.merge(first, second, most)
+        needed = len(answer[1]) if answer[0] == "accepted" else rng.randint(0, most)
+        yield merge_case, (first, second, max(0, needed + rng.choice([0, 0, 1, 2, 3, -1, -2, -3, -needed])))
+        if answer[0] == "accepted" and needed < LONGEST and left:
+            left -= 1
+            bodies = tables.read(answer[1])[1]
+            yield union_case, (first, second, sweep.planted(rng, rng.sample(bodies, min(6, len(bodies)))))
+
+
+def run(name, cases):
+    """Runs them; how many there were of each check."""
+    ran = collections.Counter()
+    for i, (check, case) in enumerate(cases):
+        try:
+            check(*case)
+        except Differs as why:
+            print(f"merge: {name} {i}, {check.__name__}: {why}"[:2000])
+            print("  ", repr(case)[:2000])
+            sys.exit(1)
+        ran[check.__name__] += 1
+    return ran
+
+
+def main():
+    parser = argparse.ArgumentParser(description=__doc__, formatter_class=argparse.RawDescriptionHelpFormatter)
+    parser.add_argument("--seed", type=int, default=random.SystemRandom().randrange(2**32))
+    seed = parser.parse_args().seed
+    proved.load("gateway")
+    print(f"merge: seed {seed}", flush=True)
+    all_fixed = list(fixed())
+    counts = (len(list(books.pairs())), len(all_fixed))
+    if counts != COUNTS:
+        sys.exit(f"merge: {counts} pairs and merges of them, wanted {COUNTS}")
+    for _, case in all_fixed:
+        seen.update(causes(*case))
+    missing = [name for name in wanted() if not seen[name]]
+    if missing:
+        sys.exit("merge: no pair meets: " + "; ".join(missing))
+    run("pair", all_fixed)
+    ran = run(f"seed {seed}, case", fresh(random.Random(seed)))
+    if ran["union_case"] < SWEPT or not found:
+        sys.exit(f"merge: only {ran['union_case']} pairs were swept, with {found} hits")
+    print(
+        f"merge: {counts[0]} pairs of books with {counts[1]} outputs, which meet {len(list(wanted()))} causes, and {FRESH} pairs of seed "
+        f"{seed}: {calls.made} calls tell and leave what the plain reading says; {SWEPT} pairs are swept, and the merged book finds the "
+        f"{found} hits of the two"
+    )
+
+
+if __name__ == "__main__":
+    main()
