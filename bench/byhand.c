@@ -1,7 +1,7 @@
 #include "byhand.h"
 #include <string.h>
 
-enum { NODES = 16385, DEPTHS = 64 };
+enum { NODES = 16385, DEPTHS = 64, LENGTHS = 68 };
 
 static const uint8_t *last[256]; /* the last byte of each token */
 static size_t size[256], many;
@@ -83,10 +83,20 @@ static size_t shift_of(size_t shortest, const uint8_t *end, size_t node, size_t 
     return other > by ? other : by;
 }
 
+/* Notes the tokens that a round met on its way down, the last and longest first; how many hits there are then. */
+static uint64_t note(uint64_t hits, const uint16_t *met, size_t count, uint32_t end, uint32_t *ends, uint32_t *tokens, size_t room) {
+    while (count--) {
+        if (hits < room) ends[hits] = end, tokens[hits] = met[count];
+        hits++;
+    }
+    return hits;
+}
+
 byhand_found byhand_sweep(const uint8_t *book, const uint8_t *image, size_t n, uint32_t *ends, uint32_t *tokens, size_t room) {
     struct {
         size_t left, right;
     } kept[5];
+    uint16_t met[LENGTHS];
     size_t used = 0, b = read_book(book), shortest = b;
     byhand_found found = {0, 0};
     build();
@@ -117,15 +127,12 @@ byhand_found byhand_sweep(const uint8_t *book, const uint8_t *image, size_t n, u
                 x = image[b - 1];
             }
         }
-        size_t before = found.hits;
+        size_t count = 0;
         node = kids[x];
         if (!node) closed = 1;
         while (node && !closed) {
             d++;
-            if (token[node]) {
-                if (found.hits < room) ends[found.hits] = b, tokens[found.hits] = token[node];
-                found.hits++;
-            }
+            if (token[node]) met[count++] = token[node];
             size_t at = first[node];
             if (!at || d == b) break;
             x = image[b - 1 - d];
@@ -133,9 +140,10 @@ byhand_found byhand_sweep(const uint8_t *book, const uint8_t *image, size_t n, u
             if (at) node = at;
             else closed = 1;
         }
+        found.hits = note(found.hits, met, count, b, ends, tokens, room);
         by = shift_of(shortest, image + b, node, d, closed, x);
         if (!d && closed) skip[x] = by;
-        if (d == 1 && closed && found.hits == before) pairs[256 * x + image[b - 1]] = by;
+        if (d == 1 && closed && !count) pairs[256 * x + image[b - 1]] = by;
         size_t low = b - d - closed, from = b - d, edge = from, k = 0;
         found.fetched += b - low;
         if (used || d >= 4 * by) {

@@ -26,7 +26,7 @@ static void asked(told r, size_t low, size_t high) {
 }
 
 /* The numbers of a state (crates/probe/specs/States.antt): at the start, with a byte due there, and with one due at a token's last. */
-enum { NUMBERS = 23, NODE = 4, DEPTH, DUE };
+enum { NUMBERS = 25, NODE = 4, DEPTH, DUE };
 static size_t fresh[NUMBERS], due_first[NUMBERS], due_last[NUMBERS];
 
 static void make_states(void) {
@@ -46,7 +46,7 @@ static told supplied(const size_t *from, uint8_t byte) {
 
 /* A state as large as the proved one, and what a step hands back. */
 typedef struct {
-    size_t numbers[6], stretches[5][3], supplied;
+    size_t numbers[8], stretches[5][3], supplied;
     uint8_t due;
 } state;
 typedef struct {

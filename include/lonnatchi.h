@@ -55,9 +55,9 @@ typedef struct {
     uint64_t refusal, value, hits, fetched;
 } lonnatchi_swept;
 
-/* Finds every token of the book in the image. Hit i ends before image byte ends[i], and is token number tokens[i], from 1; ends never
- * fall. Up to refusal 8 nothing is written. Else the tables are built, and the buffers hold the hits from the front, after refusal 12 as
- * many as the shorter one has entries; what is behind them stays as it is. */
+/* Finds every token of the book in the image. Hit i ends before image byte ends[i], and is token number tokens[i], from 1; ends rise, and
+ * at one end the longest token comes first. Up to refusal 8 nothing is written. Else the tables are built, and the buffers hold the hits
+ * from the front, after refusal 12 as many as the shorter one has entries; what is behind them stays as it is. */
 lonnatchi_swept lonnatchi_sweep(const uint8_t *book, size_t book_len, const uint8_t *image, size_t image_len, uint16_t *parent,
                                 size_t parent_len, uint8_t *label, size_t label_len, uint16_t *token, size_t token_len,
                                 uint16_t *first_child, size_t first_child_len, uint16_t *next_sibling, size_t next_sibling_len,

@@ -17,7 +17,7 @@ import steps
 import tables
 from proved import BYTES, ENTRIES, NUMBERS, Byte, Lent
 
-COUNTS = (407, 526, 7566)  # books, states, and steps from them
+COUNTS = (407, 770, 10905)  # books, states, and steps from them
 FRESH = (3000, 2000, 500)  # random books, states, and whole sweeps
 FILL = 0xA5  # in lent tables
 BEHIND = [7, 0, 2**64 - 1]  # behind the numbers of a state
@@ -152,7 +152,7 @@ def state_case(lists, state, calls):
 
 
 def start_case(n, shortest, nodes):
-    lent = Lent(NUMBERS, [FILL] * 23 + BEHIND)
+    lent = Lent(NUMBERS, [FILL] * steps.SIZE + BEHIND)
     wanted, state = (told(1), steps.State(n, shortest, nodes)) if n <= steps.IMAGE else (told(0, 8, steps.IMAGE), steps.State(0, 0, 0))
     expect("probe_start", [lent, n, shortest, nodes], wanted, {0: state.numbers() + BEHIND}.items())
 
@@ -161,7 +161,7 @@ def no_state(lists, numbers, what):
     """The numbers are too few, or the one that says whether a byte is due is neither 0 nor 1."""
     lent = Lent(NUMBERS, numbers)
     step(lent, lend(lists), what, NO_STATE)
-    if len(numbers) < 23:
+    if len(numbers) < steps.SIZE:
         expect("probe_start", [lent, 9, 1, 2], NO_STATE)
 
 
@@ -175,7 +175,7 @@ def no_states():
     lists, shortest, count = steps.built([b"axbbx"])
     numbers = steps.State(8, shortest, count).numbers()
     for what in (steps.CARRY, 97):
-        for n in range(23):
+        for n in range(steps.SIZE):
             yield no_state, (lists, numbers[:n], what)
         for due in (2, 256, FAR):
             yield no_state, (lists, numbers[:6] + [due] + numbers[7:] + BEHIND, what)
@@ -191,7 +191,7 @@ def fresh(rng):
         case = steps.arbitrary(rng) if i < FRESH[1] else steps.sweep(steps.some_bodies(rng), steps.some_image(rng))[:3]
         yield state_case, case
         numbers = case[1].numbers() + BEHIND
-        cut = numbers[: rng.randrange(23)] if rng.random() < 0.5 else numbers[:6] + [rng.choice([2, 3, FAR])] + numbers[7:]
+        cut = numbers[: rng.randrange(steps.SIZE)] if rng.random() < 0.5 else numbers[:6] + [rng.choice([2, 3, FAR])] + numbers[7:]
         yield no_state, (case[0], cut, rng.choice([steps.CARRY, 97]))
         yield start_case, (rng.choice([rng.randint(0, 99), steps.IMAGE + rng.randint(-1, 1)]), rng.randint(0, 2000), rng.randint(0, 20000))
 

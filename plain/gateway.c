@@ -1,4 +1,4 @@
-/* Compares the gateway's two calls with a plain reading of document 01, on random, damaged and largest inputs: answers, tables, hit
+/* Compares the gateway's two calls with a plain reading of the papers, on random, damaged and largest inputs: answers, tables, hit
  * buffers and the bytes around them. It knows nothing of the proved code; only lonnatchi.h. Fails at the first difference. */
 #include "../include/lonnatchi.h"
 #include <stdio.h>
@@ -119,7 +119,7 @@ static void build(void) {
     }
 }
 
-/* The hits by comparing each token at each end, the shorter token first. */
+/* The hits by comparing each token at each end, the longer token first. */
 static uint32_t *hit_end, *hit_token;
 static size_t hits, hit_room;
 
@@ -135,7 +135,7 @@ static void search(const uint8_t *image, size_t n) {
     size_t order[256];
     for (size_t t = 0; t < told.many; t++) {
         size_t i = t;
-        for (; i && told.size[order[i - 1]] > told.size[t]; i--) order[i] = order[i - 1];
+        for (; i && told.size[order[i - 1]] < told.size[t]; i--) order[i] = order[i - 1];
         order[i] = t;
     }
     hits = 0;
@@ -230,15 +230,18 @@ static void compare(const uint8_t *book, size_t book_len, const uint8_t *image, 
     calls++;
 }
 
-/* Reads, builds and searches plainly, and compares with hit buffers of every length from none to one more than enough. */
-static void check(const uint8_t *book, size_t book_len, const uint8_t *image, size_t n, const size_t lens[5]) {
-    uint64_t fetched = 0;
+/* Reads, builds and searches plainly; the number of bytes fetched. */
+static uint64_t plainly(const uint8_t *book, size_t book_len, const uint8_t *image, size_t n) {
     nodes = hits = 0;
     cases++;
-    if (read_book(book, book_len)) {
-        build(), search(image, n < LIMIT ? n : LIMIT);
-        if (n <= LIMIT) fetched = fetches(image, n);
-    }
+    if (!read_book(book, book_len)) return 0;
+    build(), search(image, n < LIMIT ? n : LIMIT);
+    return n <= LIMIT ? fetches(image, n) : 0;
+}
+
+/* Compares with hit buffers of every length from none to one more than enough, where hits are few; of some lengths, where they are many. */
+static void check(const uint8_t *book, size_t book_len, const uint8_t *image, size_t n, const size_t lens[5]) {
+    uint64_t fetched = plainly(book, book_len, image, n);
     size_t most = hits < 8 ? hits + 1 : 0;
     for (size_t i = 0; i <= most; i++)
         for (size_t k = 0; k <= most; k++)
@@ -291,14 +294,70 @@ static void random_case(void) {
     check(book, book_len, image, n, lens);
 }
 
+/* A book of endings of one body, in any order. */
+static void nested_book(const uint8_t body[64]) {
+    uint64_t taken = 0;
+    book_len = 0;
+    for (size_t many = 2 + below(9); many; many--) {
+        size_t size = 1 + below(below(2) ? 6 : 64);
+        if (taken >> (size - 1) & 1) continue;
+        taken |= (uint64_t)1 << (size - 1);
+        add(body + 64 - size, size);
+    }
+    book[book_len++] = 0;
+}
+
+/* An image of endings of that body, of which some are spoilt; its length. */
+static size_t nested_image(const uint8_t body[64], uint32_t letters) {
+    size_t n = 0, least = 20 + below(120);
+    while (n < least) {
+        size_t size = 1 + below(64);
+        memcpy(image + n, body + 64 - size, size);
+        n += size;
+        if (!below(3)) image[n - 1 - below(size)] = 'a' + below(letters + 1);
+    }
+    return n;
+}
+
+/* Tokens inside tokens, and hit buffers that end within the hits of one end: the shorter one has every small length, and some others. */
+static void nested_case(void) {
+    static const size_t lens[5] = {700, 700, 700, 700, 700};
+    uint8_t body[64];
+    uint32_t letters = 1 + below(3);
+    for (size_t i = 0; i < sizeof body; i++) body[i] = 'a' + below(letters);
+    nested_book(body);
+    size_t n = nested_image(body, letters);
+    uint64_t fetched = plainly(book, book_len, image, n);
+    for (size_t room = 0; room <= hits + 1; room += room < 30 ? 1 : 1 + below(hits / 8 + 1)) {
+        compare(book, book_len, image, n, lens, room, hits + below(2), fetched);
+        compare(book, book_len, image, n, lens, room + below(2), room, fetched);
+    }
+}
+
 static void full(size_t n) {
     static const size_t lens[5] = {ENTRIES, ENTRIES, ENTRIES, ENTRIES, ENTRIES};
     check(book, book_len, image, n, lens);
 }
 
+/* A token of each length there is, all of one letter, so that as many as can end at one place. */
+static void every_length(int falling) {
+    uint8_t body[1024];
+    memset(body, 'a', sizeof body);
+    book_len = 0;
+    for (size_t i = 0; i < 68; i++) {
+        size_t k = falling ? 68 - i : i + 1;
+        add(body, k <= 64 ? k : (size_t)64 << (k - 64));
+    }
+    book[book_len++] = 0;
+    memset(image, 'a', 1100);
+    full(1100);
+}
+
 int main(void) {
     image = malloc(LIMIT + 1);
     for (int i = 0; i < 4000; i++) random_case();
+    for (int i = 0; i < 300; i++) nested_case();
+    every_length(0), every_length(1);
     /* The largest books, one token more, and 256 and 257 tokens. */
     static const size_t many[] = {16, 17, 256, 257, 256, 256}, size[] = {1024, 1024, 8, 8, 64, 65};
     for (int i = 0; i < 5; i++) {

@@ -2,7 +2,7 @@
 """Compares the proved merge of two books with the plain one: every answer, and all that the output then holds, with what lies around it and
 the two books. The pairs of books.py come first, with outputs of lengths about the one needed; they must be as many as COUNTS says and meet
 all that `wanted` names; then fresh random ones. Some of these are swept with both books and the merged one, by single bytes and as a whole:
-the merged book finds, by token bytes, what the two find, and each hit once. Fails at the first difference and says where.
+the merged book finds, by token bytes, what the two find, each hit once and in its order. Fails at the first difference and says where.
 
   plain/merge.py            with a new seed, which it prints
   plain/merge.py --seed N   the random cases of that seed again
@@ -16,6 +16,7 @@ import sys
 import books
 import calls
 import proved
+import steps
 import sweep
 import tables
 from calls import Differs, told
@@ -115,7 +116,7 @@ def wanted():
 
 def by_bytes(book, image):
     """The hits (end, token) of the sweep by single bytes."""
-    lent, state, slices = Lent(BYTES, book), Lent(NUMBERS, [0] * 23), calls.lend([[0] * len(book)] * 5)
+    lent, state, slices = Lent(BYTES, book), Lent(NUMBERS, [0] * steps.SIZE), calls.lend([[0] * len(book)] * 5)
     _, nodes, shortest, *_ = proved.call("probe_build", lent, *slices)
     proved.call("probe_start", state, len(image), shortest, nodes)
     hits, (kind, *values) = [], proved.call("probe_carry_on", state, *slices)
@@ -145,16 +146,18 @@ def by_search(book, image):
 
 
 def swept(book, image):
-    """The hits as pairs of end and token bytes; every way of sweeping finds the same, and none twice."""
-    bodies, ways = tables.read(book)[1], []
-    for way in (by_search, by_bytes, as_a_whole):
-        hits = [(end, bodies[number - 1]) for end, number in way(book, image)]
-        if len(set(hits)) < len(hits):
-            raise Differs(f"{way.__name__} finds a hit twice: {sorted(hits)}")
-        ways.append(set(hits))
-        if ways[0] != ways[-1]:
-            raise Differs(f"{way.__name__} finds others than a search: {sorted(ways[0] ^ ways[-1])}")
-    return ways[0]
+    """The hits as pairs of end and token bytes; every way of sweeping finds the same, in the same order."""
+    bodies, plain = tables.read(book)[1], by_search(book, image)
+    for way in (by_bytes, as_a_whole):
+        hits = way(book, image)
+        if hits != plain:
+            raise Differs(f"{way.__name__} finds {hits}, a search {plain}")
+    return [(end, bodies[number - 1]) for end, number in plain]
+
+
+def joined(hits, others):
+    """Those of two books, each once: ends rise, and at one end the longest token comes first."""
+    return sorted({*hits, *others}, key=lambda hit: (hit[0], -len(hit[1])))
 
 
 def union_case(first, second, image):
@@ -163,10 +166,10 @@ def union_case(first, second, image):
     kind, length, *_ = proved.call("probe_merge", Lent(BYTES, first), Lent(BYTES, second), out)
     if kind != 1:
         raise Differs("the books are not merged")
-    merged, both = swept(bytes(out.content()[:length]), image), swept(first, image) | swept(second, image)
+    merged, both = swept(bytes(out.content()[:length]), image), joined(swept(first, image), swept(second, image))
     found += len(merged)
     if merged != both:
-        raise Differs(f"the merged book finds others than the two: {sorted(merged ^ both)}")
+        raise Differs(f"the merged book finds {merged}, the two {both}")
 
 
 # All cases

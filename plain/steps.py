@@ -1,16 +1,18 @@
-"""The sweep by single bytes, plainly, from document 01 alone, and states to step from.
+"""The sweep by single bytes, plainly, from the papers alone, and states to step from.
 
 A case is five tables, a state and the calls made from it: a byte to supply, or CARRY to carry on. `seen` counts the causes of refusals 9,
 10 and 11, the ends of ranges and the kinds of answers that calls met; `wanted` names those that some case must meet.
 """
 import collections
 import copy
+import itertools
 import random
 
 import tables
 
 CARRY = 256
 NODES, IMAGE, BODY, MOST = 16385, 16777216, 1024, 1000000000
+SIZE = 25  # numbers of a state
 TABLES = ("parent", "label", "token", "first child", "next sibling")
 
 # What the cases met, by name.
@@ -18,15 +20,17 @@ seen = collections.Counter()
 
 
 class State:
-    def __init__(self, image, shortest, count, boundary=None, node=0, depth=0, due=False, slots=(), supplied=0):
+    def __init__(self, image, shortest, count, boundary=None, node=0, depth=0, due=False, slots=(), supplied=0, end=0, hit=0):
         self.image, self.shortest, self.count = image, shortest, count
         self.boundary = shortest if boundary is None else boundary
         self.node, self.depth, self.due, self.supplied = node, depth, due, supplied
         self.slots = [list(s) for s in slots] + [[0, 0, 0] for _ in range(5 - len(slots))]
+        self.end, self.hit = end, hit  # of the hits left: their end, and the node of the next
+        self.said = None  # the last answer's word; no part of the state
 
     def numbers(self):
-        flat = [x for s in self.slots for x in s]
-        return [self.image, self.shortest, self.count, self.boundary, self.node, self.depth, int(self.due), self.supplied, *flat]
+        first = [self.image, self.shortest, self.count, self.boundary, self.node, self.depth, int(self.due), self.supplied]
+        return [*first, *(x for s in self.slots for x in s), self.end, self.hit]
 
     def stretches(self):
         return [s for s in self.slots if any(s)]
@@ -52,6 +56,14 @@ def child(lists, v, x):
             return at
         at = following[at]
     return None
+
+
+def carriers(lists, v):
+    """The nodes with a token from v up to the root."""
+    while v:
+        if lists[2][v]:
+            yield v
+        v = lists[0][v]
 
 
 def kept(b, s):
@@ -80,8 +92,12 @@ def shift(lists, s, closing):
     return max(node, byte)
 
 
-def end_round(lists, s, closing):
+def end_round(lists, s, last, closing=None):
+    """Rules 4 to 6; the round's hits are left then. `last` says when its last byte came in."""
     start, b = s.boundary - s.depth, s.boundary
+    s.hit = next(carriers(lists, s.node), 0)
+    s.end = b if s.hit else 0
+    note_end(lists, s, last, closing)
     left_over = [m for m in s.stretches() if not (start <= m[0] and m[1] <= b)]
     left = max([start] + [m[1] for m in left_over])
     node = s.node
@@ -97,23 +113,32 @@ def end_round(lists, s, closing):
     s.boundary, s.node, s.depth = after, 0, 0
 
 
-def take(lists, s, x):
-    """Rule 3; the hit, if there is one."""
+def take(lists, s, x, last="supplied"):
+    """Rule 3."""
     to = child(lists, s.node, x)
     if to is None:
-        end_round(lists, s, x)
-        return None
-    s.node, s.depth = to, s.depth + 1
-    return f"hit {s.boundary} {lists[2][to]}" if lists[2][to] else None
+        end_round(lists, s, last, x)
+    else:
+        s.node, s.depth = to, s.depth + 1
 
 
-def settle(lists, s):
-    while True:
+def answered(lists, s):
+    """The next of the hits left, from the longest token to the shortest; the one after it is next then."""
+    node = s.hit
+    said = f"hit {s.end} {lists[2][node]}"
+    s.hit = next(carriers(lists, lists[0][node]), 0)
+    s.end = s.end if s.hit else 0
+    return said
+
+
+def settle(lists, s, last="before the call"):
+    """Runs on to an answer; a hit that is left comes first."""
+    s.due = False
+    while not s.hit:
         if s.boundary > s.image:
-            s.due = False
             return "done"
         if not lists[3][s.node] or s.depth == s.boundary:
-            end_round(lists, s, None)
+            end_round(lists, s, last)
             continue
         place = s.boundary - 1 - s.depth
         x = recall(lists, s, place)
@@ -121,10 +146,9 @@ def settle(lists, s):
             s.due = True
             return f"fetch {place}"
         seen["rule 2: remembered"] += 1
-        hit = take(lists, s, x)
-        if hit:
-            s.due = False
-            return hit
+        last = "remembered"
+        take(lists, s, x, last)
+    return answered(lists, s)
 
 
 # The refusals, each by all causes that hold: a name for each
@@ -201,9 +225,25 @@ def state_ranges(lists, s):
         yield "stretch's node", 0, node, s.count - 1
         yield "stretch's length", deep(lists, node), right - left, deep(lists, node)
         before = right
+    yield from left_ranges(lists, s)
+
+
+def left_ranges(lists, s):
+    """Those of the hits left; where there is none, the node of the next is the root."""
+    if s.hit == 0:
+        yield "end with no hit left", 0, s.end, 0
+        return
+    yield "hit's node", 1, s.hit, s.count - 1
+    yield "hit's token", 1, lists[2][s.hit] if s.hit < len(lists[2]) else 0, 2**64
+    yield "end", deep(lists, s.hit), s.end, s.image
+    yield "b's distance from the end", 1, s.boundary - s.end, s.shortest
+    for _, right, _ in s.stretches():
+        yield "stretch's right with a hit left", 0, right, s.end
 
 
 def due_causes(lists, s):
+    if s.hit:
+        yield "10: due with a hit left"
     if s.boundary > s.image:
         yield "10: due when done"
     elif s.depth == s.boundary:
@@ -220,11 +260,15 @@ def range_causes(lists, s):
     used = s.stretches()
     if s.slots[: len(used)] != used:
         causes.append("10: unused slot before one in use")
+    if s.hit and (s.node or s.depth):
+        causes.append("10: round begun with a hit left")
     return causes or (list(due_causes(lists, s)) if s.due else [])
 
 
 # A cause of the first group is met alone. Those of the second never hold alone: such a child has another parent than the node, a count
-# of 0 leaves no node, and a stretch of no byte is kept nowhere before b.
+# of 0 leaves no node, and a stretch of no byte is kept nowhere before b. Some ranges have one side: a hit's node is not below 1, since 0
+# is none; its token is not above 256, which is 9; and no number is below 0. With a hit left, a node that is not the root and a d that is
+# not 0 are one cause, as either alone breaks d's own range.
 ALONE = (
     *(f"9: table length, {name}, one below" for name in TABLES),
     *(f"9: the root's {name} one above" for name in TABLES if name != "first child"),
@@ -237,6 +281,12 @@ ALONE = (
     "10: stretch's distance from b one below", "10: four times its distance one above", "10: stretch's node one above",
     "10: stretch's length one below", "10: stretch's length one above", "10: unused slot before one in use",
     "10: due when done", "10: due at the image's start", "10: due at a remembered place", "10: due with no child",
+    "10: end with no hit left one above", "10: end with no hit left far above", "10: hit's node one above", "10: hit's token one below",
+    "10: end one below", "10: end far below", "10: end one above", "10: end far above",
+    "10: b's distance from the end one below", "10: b's distance from the end far below",
+    "10: b's distance from the end one above", "10: b's distance from the end far above",
+    "10: stretch's right with a hit left one above", "10: stretch's right with a hit left far above",
+    "10: round begun with a hit left", "10: due with a hit left",
 )
 NEVER_ALONE = (
     "9: first child one below", "9: first child far below", "10: node count one below",
@@ -247,8 +297,14 @@ WITHIN = (
     "b least", "b greatest", "supplied greatest", "first stretch's left least", "next stretch's left least", "stretch's right greatest",
     "stretch's distance from b least", "four times its distance greatest", "stretch's node greatest", "stretch's length least",
     "four stretches", "a byte due", "a node 1,024 deep", "token number 256", "entries behind the nodes",
+    "end with no hit left greatest", "hit's node least", "hit's node greatest", "hit's token least", "end least", "end greatest",
+    "b's distance from the end least", "b's distance from the end greatest", "stretch's right with a hit left greatest",
+    "three hits left", "68 hits left", "hits left with one token number", "a hit left when b > N", "four stretches and a hit left",
 )
 KINDS = ("carrying on", "supplying")
+# How a round ends, and when its last byte came in; what a hit is, by whether one was left before the call, and one is after it.
+ENDS, LAST = ("a closing byte", "no child", "the image's start"), ("supplied", "remembered", "before the call")
+HITS = (("the only hit of a round", "the first of several hits"), ("the last of several hits", "one of several hits"))
 
 
 def wanted():
@@ -256,16 +312,49 @@ def wanted():
         yield from (f"{cause}, alone, {kind}" for cause in ALONE)
         yield from (f"{cause}, {kind}" for cause in NEVER_ALONE)
         yield from (f"{what}, {kind}" for what in ("11", "9 before 10", "9 before 11", "10 before 11", "10 near 2^64"))
-        yield from (f"{what}, {kind}" for what in ("fetch", "hit", "done"))
+        yield from (f"{what}, {kind}" for what in ("fetch", "done", *HITS[False], "hit when b > N"))
+    yield from (f"{what}, carrying on" for what in HITS[True])
+    yield from ("11 with a hit left, supplying", "hit after hit", "fetch after hit", "done after hit", "done after done")
+    for how, last in itertools.product(ENDS, LAST):
+        if (how, last) != ("a closing byte", "before the call"):
+            yield f"hits of a round ended by {how}, its last byte {last}"
     yield from (f"9: shortest of 4, {name}" for name in TABLES)
     yield from (f"within: {what}" for what in WITHIN)
-    yield from ("rule 2: remembered", "rule 4: forgotten", "rule 4: cut", "rule 6: not kept", "rule 6: just kept", "done again")
+    yield from ("rule 2: remembered", "rule 4: forgotten", "rule 4: cut", "rule 6: not kept", "rule 6: just kept")
 
 
 def note(causes, kind):
     for cause in causes:
         seen[f"{cause}, {kind}"] += 1
         seen[f"{cause}, alone, {kind}"] += len(causes) == 1
+
+
+def note_end(lists, s, last, closing):
+    """How a round ended that leaves hits; it still stands where it ended."""
+    if s.hit == 0:
+        return
+    for how, holds in zip(ENDS, (closing is not None, not lists[3][s.node], s.depth == s.boundary)):
+        seen[f"hits of a round ended by {how}, its last byte {last}"] += holds
+
+
+def note_left(lists, s):
+    """What hits are left, in their ranges."""
+    numbers = [lists[2][v] for v in carriers(lists, s.hit)]
+    seen["within: three hits left"] += len(numbers) >= 3
+    seen["within: 68 hits left"] += len(numbers) == 68
+    seen["within: hits left with one token number"] += len(set(numbers)) < len(numbers)
+    seen["within: a hit left when b > N"] += s.hit > 0 and s.boundary > s.image
+    seen["within: four stretches and a hit left"] += s.hit > 0 and len(s.stretches()) == 4
+
+
+def note_answer(s, word, kind, left):
+    """What a call answered; `left`: a hit was left before it."""
+    if word == "hit":
+        seen[f"{HITS[left][s.hit > 0]}, {kind}"] += 1
+        seen[f"hit when b > N, {kind}"] += s.boundary > s.image
+    seen[f"{word}, {kind}"] += 1
+    seen[f"{word} after {s.said}"] += 1
+    s.said = word
 
 
 def note_within(lists, s):
@@ -277,6 +366,7 @@ def note_within(lists, s):
     seen["within: a node 1,024 deep"] += len(ending(lists, s.count - 1)) == BODY
     seen["within: token number 256"] += max(lists[2][: s.count]) == 256
     seen["within: entries behind the nodes"] += min(map(len, lists)) > s.count
+    note_left(lists, s)
 
 
 def refusal(lists, state, kind):
@@ -298,25 +388,25 @@ def refusal(lists, state, kind):
     note_within(lists, state)
     if out_of_turn:
         seen[f"11, {kind}"] += 1
+        seen[f"11 with a hit left, {kind}"] += state.hit > 0
         return "refused 11 0"
     return None
 
 
 def call(lists, state, what):
-    """The answer; the state is changed in place where the call is not refused."""
-    kind = KINDS[what != CARRY]
+    """The answer; the state is changed in place where the call is not refused, and stays in its ranges."""
+    kind, left = KINDS[what != CARRY], state.hit > 0
     refused = refusal(lists, state, kind)
     if refused:
         return refused
-    over = state.boundary > state.image
     if what == CARRY:
         said = settle(lists, state)
     else:
         state.supplied = min(MOST, state.supplied + 1)
-        state.due = False
-        said = take(lists, state, what) or settle(lists, state)
-    seen[f"{said.split()[0]}, {kind}"] += 1
-    seen["done again"] += over and said == "done"
+        take(lists, state, what)
+        said = settle(lists, state, "supplied")
+    assert not range_causes(lists, state)
+    note_answer(state, said.split()[0], kind, left)
     return said
 
 
@@ -328,24 +418,34 @@ def built(bodies):
     return lists, min(map(len, bodies)), len(lists[0])
 
 
-def sweep(bodies, image):
-    """Tables, first state, and the calls of a whole sweep, whose hits are those of a plain search; and the places fetched."""
-    lists, shortest, count = built(bodies)
-    state, calls, what, hits, places = State(len(image), shortest, count), [], CARRY, [], []
-    while True:
+def search(words, image):
+    """The hits (end, number) of words, each a number and its bytes, plainly: ends rise, and at one end the longest word comes first."""
+    order = sorted(words, key=lambda word: -len(word[1]))
+    return [(end, number) for end in range(len(image) + 1) for number, body in order if image[:end].endswith(body)]
+
+
+def followed(lists, state, image):
+    """The calls of a sweep of the image from the state on, and the answers."""
+    calls, answers, what = [], [], CARRY
+    while answers[-1:] != ["done"]:
         calls.append(what)
-        said, *values = call(lists, state, what).split()
-        what = CARRY
-        if said == "done":
-            break
-        if said == "fetch":
-            places.append(int(values[0]))
-            what = image[places[-1]]
-        else:
-            hits.append(tuple(map(int, values)))
-    plain = [(end, i + 1) for end in range(len(image) + 1) for i, t in enumerate(bodies) if image[:end].endswith(t)]
-    assert sorted(hits) == plain and [end for end, _ in hits] == [end for end, _ in plain]
-    return lists, State(len(image), shortest, count), calls, places
+        answers.append(call(lists, state, what))
+        word, value, *_ = answers[-1].split() + [None]
+        assert word != "refused"
+        what = image[int(value)] if word == "fetch" else CARRY
+    return calls, answers
+
+
+def swept(lists, words, image):
+    """Tables with these words, first state, and the calls of a whole sweep, whose hits are those of a search; and the places fetched."""
+    state = State(len(image), min(len(body) for _, body in words), len(lists[0]))
+    calls, answers = followed(lists, copy.deepcopy(state), image)
+    assert [said for said in answers if said.startswith("hit")] == [f"hit {end} {number}" for end, number in search(words, image)]
+    return lists, state, calls, [int(said.split()[1]) for said in answers if said.startswith("fetch")]
+
+
+def sweep(bodies, image):
+    return swept(tables.build(bodies), list(enumerate(bodies, 1)), image)
 
 
 def samples():
@@ -358,6 +458,11 @@ def samples():
         ([b"aaaaa", b"aa"], b"aaaaaa", None),
         ([b"baab", b"ab", b"a"], b"bbaabbaaa", None),
         ([b"baba", b"babab"], b"bbababaa", None),
+        ([b"a", b"aa", b"aaa", b"aaaa"], b"aaaaaabaaa", None),
+        ([b"aaaa", b"aa", b"baaaa", b"a", b"aaa"], b"baaaaabaaaa", None),
+        ([b"x", b"bx", b"bbx", b"xbbx", b"axbbx"], b"axbbxbbxcbxaxbbx", None),
+        ([b"axbbx", b"bx", b"xbbx", b"ccaxbbx", b"b", b"xb"], b"bbxccaxbbxbbxb", None),
+        ([b"abab", b"ab", b"bab", b"b", b"ababab"], b"abababababbab", None),
     ):
         lists, state, calls, places = sweep(bodies, image)
         assert fetched is None or places == list(map(int, fetched.split()))
@@ -388,6 +493,7 @@ def damaged():
             lists[k][at] = value
         yield lists, State(9, 2, 6), BOTH
         yield lists, State(9, 2, 6, due=True), BOTH
+        yield lists, State(9, 2, 6, 4, end=3, hit=4), BOTH + BOTH
     for k in range(5):
         yield good[:k] + [good[k][:5]] + good[k + 1 :], State(9, 2, 6), BOTH
         yield [l[: 2 + (i + k) % 5] for i, l in enumerate(good)], State(9, 0, 6), BOTH
@@ -396,6 +502,7 @@ def damaged():
     spoilt[label][0] = 1
     yield spoilt, State(9, 0, 6, due=True), BOTH
     yield spoilt, State(9, 0, 0), BOTH
+    yield spoilt, State(9, 2, 6, 4, end=3, hit=2**64 - 1), BOTH
     deepest = chain(1024)
     yield deepest, State(2000, 1024, 1025), BOTH
     deeper = [l + [x] for l, x in zip(deepest, (1024, 97, 0, 0, 0))]
@@ -433,8 +540,65 @@ def ranges():
         yield lists, State(**(base | changes)), BOTH + [98, CARRY, 97, CARRY]
 
 
+# Tokens of as many a, the longest first, so that node v is v deep; and calls that answer hits left, in turn and out of it.
+INNER = (40, 1, 20, 2, 5)
+LEFT = [97, CARRY, 98, CARRY, CARRY, 97, CARRY, CARRY, 97, 98, CARRY]
+
+
+def hits_left():
+    """Hits left: their ranges at their ends and one further, over tokens inside tokens and an entry behind them that has a number too."""
+    inner = tables.build([b"a" * n for n in INNER])
+    lists = [l + [x] for l, x in zip(inner, (40, 97, 6, 0, 0))]
+    base = dict(image=60, shortest=8, count=41, boundary=45, slots=[(0, 40, 40), (40, 44, 4)], end=44, hit=20)
+    none, far = dict(slots=[]), 2**64 - 1
+    for changes in (
+        dict(), none, dict(hit=40), dict(hit=1), dict(hit=2), dict(hit=3), dict(hit=4), dict(hit=41), dict(hit=42), dict(count=42, hit=41),
+        dict(count=42, hit=42), dict(end=0, hit=0), dict(end=1, hit=0), dict(hit=0), dict(end=1, hit=0) | none, dict(end=0) | none,
+        dict(end=20, boundary=21) | none, dict(end=19, boundary=20) | none, dict(end=1, boundary=2, hit=20) | none,
+        dict(end=1, boundary=2, hit=1) | none, dict(end=20, boundary=21, slots=[(0, 20, 20)]),
+        dict(image=44), dict(image=45), dict(image=43) | none, dict(image=40) | none, dict(image=40, boundary=52) | none,
+        dict(boundary=44, slots=[(0, 40, 40)]), dict(boundary=43, slots=[(0, 40, 40)]), dict(boundary=44) | none, dict(boundary=20) | none,
+        dict(boundary=46) | none, dict(boundary=52) | none, dict(boundary=53) | none, dict(boundary=60) | none, dict(boundary=61) | none,
+        dict(boundary=52, slots=[(4, 44, 40)]), dict(boundary=53, slots=[(4, 44, 40)]), dict(boundary=52, slots=[(5, 45, 40)]),
+        dict(shortest=1), dict(shortest=1, boundary=46) | none, dict(shortest=0), dict(shortest=1024, boundary=1068) | none,
+        dict(shortest=1024, boundary=1069) | none, dict(image=44, shortest=1024, boundary=1068) | none,
+        dict(image=44, shortest=1024, boundary=1069) | none, dict(image=44, boundary=52) | none, dict(image=44, boundary=53) | none,
+        dict(image=IMAGE, end=IMAGE, boundary=IMAGE + 1024, shortest=1024) | none,
+        dict(image=IMAGE, end=IMAGE + 1, boundary=IMAGE + 1024, shortest=1024) | none,
+        dict(image=IMAGE, end=IMAGE, boundary=IMAGE + 1025, shortest=1024) | none,
+        dict(boundary=46, slots=[(40, 44, 4)]), dict(boundary=46, slots=[(41, 45, 4)]), dict(boundary=47, slots=[(42, 46, 4)]),
+        dict(boundary=46, slots=[(0, 40, 40), (41, 45, 4)]), dict(boundary=46, slots=[(1, 41, 40), (41, 45, 4)]),
+        dict(boundary=50, slots=[(5, 45, 40), (45, 49, 4)]), dict(end=40, boundary=41, slots=[(0, 40, 40)]),
+        dict(end=39, boundary=41, slots=[(0, 40, 40)]), dict(end=43), dict(end=44, slots=[(44, 44, 0)]),
+        dict(node=1, depth=1), dict(node=1, depth=1) | none, dict(node=40, depth=40), dict(node=1), dict(depth=1), dict(node=41, depth=41),
+        dict(node=20, depth=20, end=0), dict(node=20, depth=20, end=20, boundary=21) | none,
+        dict(due=True), dict(due=True) | none, dict(due=True, image=44) | none, dict(due=True, node=1, depth=1) | none,
+        dict(due=True, boundary=53) | none, dict(due=True, hit=3), dict(due=True, end=1, hit=0) | none, dict(due=True, end=0, hit=0) | none,
+        dict(supplied=MOST), dict(supplied=MOST + 1), dict(hit=far), dict(hit=far) | none, dict(end=far), dict(end=far, hit=far),
+        dict(end=far, hit=0), dict(end=far - 3) | none, dict(end=far - 7) | none, dict(end=far, boundary=1) | none,
+        dict(end=far - 1, boundary=far) | none, dict(image=far, end=far - 1, boundary=far) | none, dict(shortest=far),
+        dict(hit=2**16 + 20), dict(hit=2**32 + 20), dict(end=2**32 + 44), dict(end=2**32, hit=0), dict(due=True, end=far, hit=far),
+    ):
+        yield lists, State(**(base | changes)), LEFT
+    yield inner, State(**(base | dict(hit=41))), BOTH
+    yield inner, State(**(base | dict(hit=40, image=44))), LEFT
+
+
+def standing():
+    """Rounds that stand where they end, or run there over remembered bytes, with tokens on their way: before done, and when done."""
+    lists, _, count = built([b"a" * n for n in INNER] + [b"baaaaaaa"])
+    for b, d, slots in (
+        (40, 40, []), (41, 40, []), (45, 40, [(0, 40, 40)]), (20, 20, []), (3, 3, []), (1, 1, []), (25, 5, [(0, 20, 20)]),
+        (42, 2, [(0, 40, 40)]), (41, 1, [(0, 40, 40)]), (45, 5, [(20, 40, 20)]), (46, 6, [(5, 40, 35)]), (20, 2, [(10, 18, 41)]),
+        (19, 1, [(10, 18, 41)]), (8, 8, []), (7, 7, []),
+    ):
+        for image in (b - 1, b, b + 30):
+            yield lists, State(image, 1, count, b, d, d, slots=slots), [CARRY, 98] + LEFT
+            yield lists, State(image, 3, count, b, d, d, slots=slots), [CARRY, 97] + LEFT
+
+
 def large():
-    """The node count at its ends and one further, and as many stretches as a state can have, and one more."""
+    """The node count at its ends and one further; as many stretches as a state can have, and one more; as many hits as can be left."""
     flat = [[0] * (NODES + 2)] * 5
     for count in (1, NODES, NODES + 1):
         yield flat, State(3, 1, count), BOTH
@@ -442,10 +606,14 @@ def large():
     long = chain(500)
     yield long, State(700, 500, 501, 625, slots=four), BOTH + BOTH
     yield long, State(700, 500, 501, 625, slots=four + [(624, 625, 1)]), BOTH
+    yield long, State(700, 500, 501, 625, slots=four, end=624, hit=500), BOTH + BOTH
+    every = tables.build([b"a" * n for n in tables.LENGTHS.values()])
+    yield every, State(1024, 1, 1025, 1025, end=1024, hit=1024), [CARRY, 97] + [CARRY] * 69
+    yield every, State(1023, 1, 1025, 1024, end=1023, hit=1024), BOTH
 
 
 def uneven():
-    """Tables that no building made: no child, no token, siblings with one label, a node that no chain leads to."""
+    """Tables that no building made: no child, no token, siblings with one label, a node that no chain leads to, a number many times."""
     yield [[0]] * 5, State(3, 1, 1), [CARRY, CARRY]
     bare = [[0, 0], [0, 97], [0, 0], [1, 0], [0, 0]]
     yield bare, State(5, 2, 2), [CARRY, 97, 97, 98, CARRY, 97]
@@ -453,11 +621,24 @@ def uneven():
     yield twins, State(3, 1, 3), [CARRY, 97, CARRY, 97, CARRY, 98]
     stray = [[0, 0, 1], [0, 97, 98], [0, 0, 3], [1, 0, 0], [0, 0, 0]]
     yield stray, State(6, 2, 3), [CARRY, 97, CARRY, 98, 97, 97, CARRY]
+    yield twins, State(3, 1, 3, 2, end=1, hit=2), [CARRY, 97, CARRY, 97]
+    yield stray, State(6, 2, 3, 4, end=3, hit=2), [CARRY, CARRY, 97]
+    for numbers in ([7, 7, 7, 7, 7, 7], [7, 7, 0, 7, 7, 256], [0, 0, 7, 256, 7, 0], [256, 0, 1, 0, 0, 256], [0, 3, 3, 0, 3, 0]):
+        repeated = chain(6)
+        repeated[2] = [0, *numbers]
+        words = [(repeated[2][v], ending(repeated, v)) for v in carriers(repeated, 6)]
+        yield from (swept(repeated, words, image)[:3] for image in (b"aaaaaaaaa", b"aabaaaaaabaaaa"))
+        yield repeated, State(9, 4, 7, 9, end=6, hit=max(carriers(repeated, 6))), LEFT
 
 
 def some_bodies(rng):
+    """A few bodies of two letters, often with endings of one of them."""
     sizes = [1, 2, 3, 4, 5, 8, 16]
     bodies = [bytes(rng.choice(b"ab") for _ in range(rng.choice(sizes))) for _ in range(rng.randint(1, 4))]
+    if rng.random() < 0.5:
+        body = rng.choice(bodies)
+        bodies += [body[-rng.randint(1, len(body)) :] for _ in range(rng.randint(1, 5))]
+        rng.shuffle(bodies)
     return list(dict.fromkeys(bodies))
 
 
@@ -471,7 +652,28 @@ def walk_in(rng, lists, state, image):
         said = call(lists, state, what).split()
         if said[0] not in ("fetch", "hit"):
             break
-        what = image[int(said[1])] if said[0] == "fetch" and rng.random() < 0.9 else rng.choice([CARRY, 97, 98])
+        what = image[int(said[1])] if said[0] == "fetch" else CARRY
+        if rng.random() < 0.1:
+            what = rng.choice([CARRY, 97, 98])
+
+
+def leave_hits(rng, lists, state):
+    """Between two rounds, with a hit left and often a stretch that ends where it does; mostly in their ranges."""
+    hits, node = [v for v in range(1, state.count) if lists[2][v]], rng.randrange(state.count)
+    if not hits:
+        return
+    state.node, state.depth, state.due, state.hit = 0, 0, False, rng.choice(hits)
+    state.end = deep(lists, state.hit) + rng.choice([0, 0, rng.randint(0, 20)])
+    state.image = max(state.image, state.end - rng.choice([0, 0, 0, 0, 1]))
+    state.boundary = state.end + rng.choice([1, 1, state.shortest, rng.randint(1, state.shortest)])
+    right = state.end + rng.choice([0, 0, 0, -1, 1])
+    stretch = [right - deep(lists, node), right, node]
+    state.slots = [stretch if 0 <= stretch[0] and right < state.boundary and kept(state.boundary, stretch) else [0, 0, 0]]
+    state.slots += [[0, 0, 0] for _ in range(4)]
+
+
+def nudged(rng, x):
+    return max(0, rng.choice([x - 1, x + 1, rng.randint(0, 30)]))
 
 
 def changed(rng, state):
@@ -480,7 +682,10 @@ def changed(rng, state):
         state.shortest = rng.randint(1, 12)
     if rng.random() < 0.2:
         name = rng.choice(["boundary", "depth", "node", "image"])
-        setattr(state, name, max(0, rng.choice([getattr(state, name) - 1, getattr(state, name) + 1, rng.randint(0, 30)])))
+        setattr(state, name, nudged(rng, getattr(state, name)))
+    if rng.random() < (0.4 if state.hit else 0.05):
+        name = rng.choice(["end", "hit"])
+        setattr(state, name, nudged(rng, getattr(state, name)))
     if rng.random() < 0.2 and state.stretches():
         slot, k = rng.choice(state.stretches()), rng.randrange(3)
         slot[k] = max(0, slot[k] + rng.choice([-1, 1]))
@@ -488,16 +693,29 @@ def changed(rng, state):
         state.due = not state.due
 
 
-def arbitrary(rng):
-    """A random book's tables, sometimes damaged, and a random state with random calls."""
+def some_tables(rng):
+    """A random book's tables, S and the count; sometimes damaged, with one number on several nodes, or with an entry behind the nodes."""
     lists, shortest, count = built(some_bodies(rng))
     for _ in range(rng.choice([0, 0, 0, 1, 2])):
         k, at = rng.randrange(5), rng.randrange(count)
         lists[k][at] = rng.choice([0, 1, at, min(at + 1, count - 1), count - 1, rng.randrange(count)])
+    for _ in range(rng.choice([0, 0, 1, 4])):
+        lists[2][rng.randrange(1, count)] = rng.choice([0, 1, 1, 2, 256])
+    if rng.random() < 0.3:
+        lists = [l + [rng.randrange(count)] for l in lists]
+    return lists, shortest, count
+
+
+def arbitrary(rng):
+    """Random tables, a random state, and random calls."""
+    lists, shortest, count = some_tables(rng)
     image = some_image(rng)
     state = State(len(image), shortest, count)
-    if tables.first_break(lists, count) is None and rng.random() < 0.7:
-        walk_in(rng, lists, state, image)
+    if tables.first_break(lists, count) is None:
+        if rng.random() < 0.7:
+            walk_in(rng, lists, state, image)
+        if rng.random() < 0.4:
+            leave_hits(rng, lists, state)
     changed(rng, state)
     calls, probe, idle = [], copy.deepcopy(state), 0
     while len(calls) < 30 and idle < 3:
@@ -514,6 +732,8 @@ def cases():
     yield from samples()
     yield from damaged()
     yield from ranges()
+    yield from hits_left()
+    yield from standing()
     yield from large()
     yield from uneven()
     rng = random.Random(5)

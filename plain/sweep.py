@@ -1,7 +1,8 @@
 #!/usr/bin/env python3
-"""Runs the program `sweep` in folders of its own and compares what it prints with a plain search, the bytes fetched with the reading
-rules, round by round, which are compared with those of steps.py on small images, and refusals with tables.py; also where reads give few
-bytes at a time, and where one fails. Fails at the first difference. Wants target/bin/sweep (`rt check sweep`) and gcc."""
+"""Runs the program `sweep` in folders of its own and compares what it prints, line by line, with a plain search, the bytes fetched with
+the reading rules, round by round, and refusals with tables.py; also where reads give few bytes at a time, and where one fails. On small
+images the search and the rounds are compared with the steps of steps.py. Fails at the first difference. Wants target/bin/sweep
+(`rt check sweep`) and gcc."""
 import errno
 import os
 import pathlib
@@ -60,9 +61,9 @@ ALL = 1 << 40  # more bytes than any file has
 
 
 def search(bodies, image):
-    """All hits (end, token), by rising end and, at one end, by rising length."""
+    """All hits (end, token), by rising end and, at one end, by falling length."""
     at_end = {}
-    for length, number in sorted((len(body), number) for number, body in enumerate(bodies, 1)):
+    for length, number in sorted(((len(body), number) for number, body in enumerate(bodies, 1)), reverse=True):
         at = image.find(bodies[number - 1])
         while at >= 0:
             at_end.setdefault(at + length, []).append(number)
@@ -111,17 +112,17 @@ def fetches(bodies, image):
 
 
 def stepped(bodies, image):
-    """The same by the steps of steps.py."""
+    """The hits, and how many bytes are fetched, by the steps of steps.py."""
     lists, shortest, count = steps.built(bodies)
-    state, fetched = steps.State(len(image), shortest, count), 0
-    said = steps.settle(lists, state)
-    while said != "done":
-        taken = None
-        if said.startswith("fetch"):
+    state, hits, fetched = steps.State(len(image), shortest, count), [], 0
+    while (said := steps.settle(lists, state)) != "done":
+        word, *values = said.split()
+        if word == "fetch":
             fetched += 1
-            taken = steps.take(lists, state, image[int(said.split()[1])])
-        said = taken or steps.settle(lists, state)
-    return fetched
+            steps.take(lists, state, image[int(values[0])])
+        else:
+            hits.append(tuple(map(int, values)))
+    return hits, fetched
 
 
 def expected(book, image):
@@ -131,8 +132,8 @@ def expected(book, image):
     if len(image) > IMAGE:
         return f"refused 8 {IMAGE}\n"
     hits, fetched = search(reading[1], image), fetches(reading[1], image)
-    if len(image) <= SMALL and fetched != stepped(reading[1], image):
-        fail("the plain readings", book, image, "fetch", fetched, "and", stepped(reading[1], image))
+    if len(image) <= SMALL and (hits, fetched) != stepped(reading[1], image):
+        fail("the plain readings", book, image, "tell", (hits, fetched), "and", stepped(reading[1], image))
     lines = [f"image {len(image)} tokens {len(reading[1])}", *(f"hit {end} {number}" for end, number in hits)]
     return "\n".join(lines + [f"end {len(hits)} {fetched}"]) + "\n"
 
@@ -297,6 +298,22 @@ def many_hits():
     yield "tokens of one byte", books.book_of([bytes([k]) for k in range(256)]), bytes(range(256)) * (IMAGE // 256)
 
 
+def inside():
+    """Tokens inside tokens, in three orders of the book: of one letter, of a few, and an ending of one body for each length."""
+    body = bytes(i % 251 for i in range(1024))
+    every = [body[-n:] for n in LENGTHS]
+    cut = b"".join(body[-n:] for n in (*range(1, 70), 127, 128, 129, 300, 512, 1023, 1024, 1))
+    for name, bodies, image in (
+        ("a, aa", [b"a", b"aa"], b"aaa"),
+        ("a to aaaa", [b"a" * n for n in range(1, 5)], b"aaaaabaaaab" * 9),
+        ("x to axbbx", [b"x", b"bx", b"bbx", b"xbbx", b"axbbx"], b"axbbxbbxcbx" * 9),
+        ("every length", every, cut),
+    ):
+        yield f"{name}, rising", books.book_of(bodies), image
+        yield f"{name}, falling", books.book_of(bodies[::-1]), image
+        yield f"{name}, in turns", books.book_of(bodies[::2] + bodies[1::2][::-1]), image
+
+
 def edge(longest, k):
     """Where the k-th part ends, if the image goes on."""
     return PART + (k - 1) * (PART - (longest - 1))
@@ -308,7 +325,7 @@ def at_edges():
         for n in (-1, 0, 1):
             yield f"image of {k} parts and {n} bytes", books.book_of([b"a" * m for m in lengths]), b"a" * (edge(max(lengths), k) + n)
     long = books.numbered(1, 1024)
-    bodies = [b"a" * m for m in range(1, 9)] + [long, long[-512:], long[-1:], long[:1], long[:64]]
+    bodies = [b"a" * m for m in range(1, 9)] + [long[-64:], long, long[-2:], long[-512:], long[-1:], long[:1], long[:64]]
     for off in (-1, 0, 1, 2, 511, 1022, 1023, 1024, 1025):
         image = bytearray(b"a" * IMAGE)
         for k in range(1, 100):
@@ -341,7 +358,7 @@ def main():
     if not PROGRAM.is_file():
         fail("no program", PROGRAM, "is not there; `rt check sweep` makes it")
     count = 0
-    for cases in (missing(), limits(), some(random.Random(3)), many_hits(), at_edges()):
+    for cases in (missing(), limits(), some(random.Random(3)), inside(), many_hits(), at_edges()):
         for case in cases:
             compare(*case)
             count += 1

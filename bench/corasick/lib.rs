@@ -1,19 +1,34 @@
-//! The same search by Debian's aho-corasick, its default automaton and overlapping matches: building it and counting them.
+//! The same search by Debian's aho-corasick, its default automaton and overlapping matches: building it and noting each.
 use aho_corasick::AhoCorasick;
+use std::slice::{from_raw_parts, from_raw_parts_mut};
 
-/// # Safety
-/// The book is accepted, and both pointers have as many bytes as is said.
-#[no_mangle]
-pub unsafe extern "C" fn corasick_sweep(book: *const u8, book_len: usize, image: *const u8, n: usize) -> u64 {
-    let book = std::slice::from_raw_parts(book, book_len);
-    let image = std::slice::from_raw_parts(image, n);
-    let mut tokens = Vec::new();
+fn bodies(book: &[u8]) -> Vec<&[u8]> {
+    let mut found = Vec::new();
     let mut at = 0;
     while book[at] != 0 {
         let kind = book[at] as usize;
         let size = if kind <= 64 { kind } else { 128 << (kind - 65) };
-        tokens.push(&book[at + 1..at + 1 + size]);
+        found.push(&book[at + 1..at + 1 + size]);
         at += 1 + size;
     }
-    AhoCorasick::new(&tokens).find_overlapping_iter(image).count() as u64
+    found
+}
+
+/// # Safety
+/// The book is accepted, and each pointer has as many entries as is said.
+#[no_mangle]
+pub unsafe extern "C" fn corasick_sweep(
+    book: *const u8, book_len: usize, image: *const u8, n: usize, ends: *mut u32, tokens: *mut u32, room: usize,
+) -> u64 {
+    let (ends, tokens) = (from_raw_parts_mut(ends, room), from_raw_parts_mut(tokens, room));
+    let automaton = AhoCorasick::new(bodies(from_raw_parts(book, book_len)));
+    let mut hits = 0;
+    for hit in automaton.find_overlapping_iter(from_raw_parts(image, n)) {
+        if hits < room {
+            ends[hits] = hit.end() as u32;
+            tokens[hits] = hit.pattern() as u32 + 1;
+        }
+        hits += 1;
+    }
+    hits as u64
 }

@@ -71,31 +71,34 @@ made =
 made-sizes : made .answer ≡ accepted (record { nodes = 3; shortest = 1; longest = 2 })
 made-sizes = refl
 
--- Demand 2's calls, in the image "a": its byte is supplied, and the hit carried on from; after done no call is made.
-sweeps-right : swept (made .tables) (a ∷ []) 9 (carryOn (made .tables) (started 1 1 3)) ≡ fetch 0 ∷ found 1 1 ∷ over ∷ []
+-- Demand 2's calls, in the image "aa": its bytes are supplied, and hits carried on from; after done no call is made.
+sweeps-right : swept (made .tables) (a ∷ a ∷ []) 9 (carryOn (made .tables) (started 2 1 3))
+    ≡ fetch 0 ∷ found 1 1 ∷ fetch 1 ∷ fetch 0 ∷ found 2 2 ∷ found 2 1 ∷ over ∷ []
 unfolding built
 sweeps-right = refl
 
--- Demand 3's calls, in any order: a byte before any is due, and carrying on when one is, meet 11 and take nothing.
+-- Demand 3's calls, in any order: a byte before any is due or while a hit is left, and carrying on when one is due, meet 11 and take
+-- nothing.
 abbrev calls : List Call
-calls = give x ∷ carry ∷ carry ∷ give a ∷ give x ∷ carry ∷ carry ∷ []
+calls = give x ∷ carry ∷ carry ∷ give a ∷ carry ∷ give a ∷ give a ∷ give x ∷ carry ∷ carry ∷ carry ∷ []
 
 abbrev replies : List Answer
-replies = denied 11 0 ∷ fetch 0 ∷ denied 11 0 ∷ found 1 1 ∷ denied 11 0 ∷ over ∷ over ∷ []
+replies =
+    denied 11 0 ∷ fetch 0 ∷ denied 11 0 ∷ found 1 1 ∷ fetch 1 ∷ fetch 0 ∷ found 2 2 ∷ denied 11 0 ∷ found 2 1 ∷ over ∷ over ∷ []
 
-said-right : ran (made .tables) (started 1 1 3) calls .said ≡ replies
+said-right : ran (made .tables) (started 2 1 3) calls .said ≡ replies
 unfolding built
 said-right = refl
 
-taken-right : ran (made .tables) (started 1 1 3) calls .taken ≡ a ∷ []
+taken-right : ran (made .tables) (started 2 1 3) calls .taken ≡ a ∷ a ∷ a ∷ []
 unfolding built
 taken-right = refl
 
-counted-right : ran (made .tables) (started 1 1 3) calls .last .supplied ≡ 1
+counted-right : ran (made .tables) (started 2 1 3) calls .last .supplied ≡ 3
 unfolding built
 counted-right = refl
 
-expected-right : expected false (answers (happens ((a ∷ []) ∷ (a ∷ a ∷ []) ∷ []) 1 (λ k p. getD (a ∷ []) k 0))) calls ≡ replies
+expected-right : expected false (answers (happens ((a ∷ []) ∷ (a ∷ a ∷ []) ∷ []) 2 (λ k p. getD (a ∷ a ∷ a ∷ []) k 0))) calls ≡ replies
 unfolding happens trace
 expected-right = refl
 
@@ -115,7 +118,7 @@ both-written = refl
 aab : List ℕ
 aab = a ∷ a ∷ b ∷ []
 
-north-named : named north (hitsOf ((a ∷ []) ∷ (a ∷ a ∷ []) ∷ []) aab) ≡ (1, a ∷ []) ∷ (2, a ∷ []) ∷ (2, a ∷ a ∷ []) ∷ []
+north-named : named north (hitsOf ((a ∷ []) ∷ (a ∷ a ∷ []) ∷ []) aab) ≡ (1, a ∷ []) ∷ (2, a ∷ a ∷ []) ∷ (2, a ∷ []) ∷ []
 unfolding aab happens trace
 north-named = refl
 
@@ -124,7 +127,7 @@ unfolding aab happens trace
 south-named = refl
 
 both-named : named both (hitsOf ((a ∷ []) ∷ (a ∷ a ∷ []) ∷ (b ∷ []) ∷ []) aab)
-    ≡ (1, a ∷ []) ∷ (2, a ∷ []) ∷ (2, a ∷ a ∷ []) ∷ (3, b ∷ []) ∷ []
+    ≡ (1, a ∷ []) ∷ (2, a ∷ a ∷ []) ∷ (2, a ∷ []) ∷ (3, b ∷ []) ∷ []
 unfolding aab happens trace
 both-named = refl
 

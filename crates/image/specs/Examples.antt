@@ -1,12 +1,16 @@
--- Samples of what the enum's cases say: the number of hits or the refusal, and the bytes fetched.
+-- Samples of what the enum's cases say, the number of hits or the refusal, and the bytes fetched; and of a round and its hits.
 use Prim.Native.Nat.{ℕ}
 use mathlib.Core.Path.{_≡_, refl}
-use mathlib.Core.List.{[], _∷_}
+use mathlib.Core.List.{List, [], _∷_}
+use mathlib.Core.Option.{some, none}
+use Rattle.rules.specs.Tokens.{ofTokens}
 use Rattle.book.specs.Book.{accepted, refused}
 use Rattle.book.specs.declared.Refusal.the-variants.{Repeat}
 use Rattle.image.specs.declared.Found.{Found}
 use Rattle.image.specs.declared.Swept.the-variants.{Whole, Unread, TooShort, TooLong, TooMany}
 use Rattle.image.specs.Results.{sweptOf, fetchedOf}
+use Rattle.image.specs.Rounds.{Reached, reached, met}
+use Rattle.image.specs.Walk.{treeIn, newest, notes}
 
 abbrev found : Found
 found = record { hits = 5; fetched = 40 }
@@ -17,3 +21,32 @@ cases-told = refl
 
 fetches-told : fetchedOf (Whole found) ∷ fetchedOf (TooShort 3) ∷ fetchedOf (TooMany found) ∷ [] ≡ 40 ∷ 0 ∷ 40 ∷ []
 fetches-told = refl
+
+-- A round before place 3, over the nodes "", "c", "bc", "abc" with these tokens.
+abbrev round : List ℕ → List ℕ → Reached ℕ
+round token image = reached (treeIn (0 ∷ 99 ∷ 98 ∷ 97 ∷ []) token (1 ∷ 2 ∷ 3 ∷ 0 ∷ []) (0 ∷ 0 ∷ 0 ∷ 0 ∷ []) 4) image 3
+
+-- In "abc" it comes to "abc", a token itself; in "xbc" to "bc", and "c" is the longest token then, or "bc", or there is none.
+to-token : round (0 ∷ 1 ∷ 2 ∷ 3 ∷ []) (97 ∷ 98 ∷ 99 ∷ []) ≡ record { node = 3; depth = 3; closing = none; tokens = 3 ∷ 2 ∷ 1 ∷ [] }
+to-token = refl
+
+past-token : round (0 ∷ 1 ∷ 0 ∷ 2 ∷ []) (120 ∷ 98 ∷ 99 ∷ []) ≡ record { node = 2; depth = 2; closing = some 120; tokens = 1 ∷ [] }
+past-token = refl
+
+to-longer : round (0 ∷ 1 ∷ 2 ∷ 0 ∷ []) (120 ∷ 98 ∷ 99 ∷ []) ≡ record { node = 2; depth = 2; closing = some 120; tokens = 2 ∷ 1 ∷ [] }
+to-longer = refl
+
+no-token : round (0 ∷ 0 ∷ 0 ∷ 1 ∷ []) (120 ∷ 98 ∷ 99 ∷ []) ≡ record { node = 2; depth = 2; closing = some 120; tokens = [] }
+no-token = refl
+
+-- "c", "bc" and "abc" in "abc": three hits, the longest first.
+longest-first : met (ofTokens ((99 ∷ []) ∷ (98 ∷ 99 ∷ []) ∷ (97 ∷ 98 ∷ 99 ∷ []) ∷ []) 1) (97 ∷ 98 ∷ 99 ∷ []) 3 ≡ (3, 3) ∷ (3, 2) ∷ (3, 1) ∷ []
+longest-first = refl
+
+-- Three numbers behind one: a buffer with room for three holds the first two of them.
+short-buffer : notes 3 1 (3 ∷ 2 ∷ 1 ∷ []) (8 ∷ 8 ∷ 8 ∷ 8 ∷ []) ≡ 8 ∷ 3 ∷ 2 ∷ 8 ∷ []
+short-buffer = refl
+
+-- The first three of four numbers, the last of them first.
+newest-first : newest (1 ∷ 2 ∷ 3 ∷ 4 ∷ []) 3 ≡ 3 ∷ 2 ∷ 1 ∷ []
+newest-first = refl

@@ -3,6 +3,7 @@ pub mod Loose
 pub mod Events
 pub mod Spans
 pub mod Notes
+pub mod Down
 pub mod Round
 pub mod Roots
 pub mod Tables

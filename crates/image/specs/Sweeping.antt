@@ -1,7 +1,7 @@
 -- What holds of a sweep between its rounds, and what a round does to it.
 use Prim.Native.Nat.{ℕ, _+_, _-_, _*_, _≤_, _<_}
 use mathlib.Core.Path.{_≡_}
-use mathlib.Core.Bool.{Bool, false}
+use mathlib.Core.Bool.{false}
 use mathlib.Core.List.{List, [], _∷_, _++_}
 use mathlib.Core.Option.{some}
 use lib.ListN.{length, getD}
@@ -18,7 +18,7 @@ use Rattle.image.specs.declared.turn.Outcome.{Outcome}
 use Rattle.image.specs.declared.walk.Stop.{Stop}
 use Rattle.image.specs.declared.walk.Stop.the-variants.{Byte, Nothing}
 use Rattle.whole.specs.Image.{hitsOf, fetchesOf}
-use Rattle.image.specs.Rounds.{Reached, reached, lowest}
+use Rattle.image.specs.Rounds.{Reached, reached, met, lowest}
 use Rattle.image.specs.Spans.{placesOf, inUse}
 use Rattle.image.specs.Rule5.{tokensOf, Accepted, closingOf, ByNode, ByByte, BySkip}
 use Rattle.image.specs.Laws.Round.{Starts, fetchesFrom, hitsFrom}
@@ -79,6 +79,10 @@ module _ (book image : List ℕ) where
   abbrev pub endAt : ℕ → Reached (List ℕ)
   endAt b = reached (ofTokens (tokensOf book) (shortestOf (tokensOf book))) image b
 
+  -- its hits, and its shift
+  abbrev pub metAt : ℕ → List (ℕ × ℕ)
+  metAt b = met (ofTokens (tokensOf book) (shortestOf (tokensOf book))) image b
+
   abbrev pub shiftAt : ℕ → ℕ
   shiftAt b = shiftOf (tokensOf book) (shortestOf (tokensOf book)) (endAt b .node) (endAt b .closing)
 
@@ -90,7 +94,7 @@ module _ (book image : List ℕ) where
     pub second : getD image (b - 2) 0 ≡ y
     pub deep : endAt b .depth ≡ 1
     pub closing : endAt b .closing ≡ some y
-    pub unmet : endAt b .marked ≡ false
+    pub unmet : endAt b .tokens ≡ []
     pub shift : by ≡ shiftAt b
 
   -- The shift of a round that ends at its second byte without a token met, by both bytes.
@@ -99,8 +103,8 @@ module _ (book image : List ℕ) where
     pub right : (y x : ℕ) → y < 256 → x < 256 → (getD cache (256 * y + x) 0 ≡ 0 → ⊥) → Seen y x (getD cache (256 * y + x) 0)
 
   -- If the round ended so, it was seen.
-  pub record Sees (x depth : ℕ) (stop : Stop) (marked : Bool) (by : ℕ) : Type 0 where
-    pub seen : (y : ℕ) → depth ≡ 1 → marked ≡ false → closingOf stop ≡ some y → Seen y x by
+  pub record Sees (x depth : ℕ) (stop : Stop) (met by : ℕ) : Type 0 where
+    pub seen : (y : ℕ) → depth ≡ 1 → met ≡ 0 → closingOf stop ≡ some y → Seen y x by
 
   -- The caches, right for a book and an image.
   pub record Caches (shortest : ℕ) (nodes bytes skip pairs : List ℕ) : Type 0 where

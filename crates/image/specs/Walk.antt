@@ -1,5 +1,5 @@
 -- What the code of a round asks of the tables, and what it answers, as `Rounds` has it.
-use Prim.Native.Nat.{ℕ, _+_, _≤_, _<_}
+use Prim.Native.Nat.{ℕ, zero, suc, _+_, _≤_, _<_}
 use mathlib.Core.Path.{_≡_}
 use mathlib.Core.Bool.{true, false}
 use mathlib.Core.List.{List, [], _∷_, map}
@@ -24,9 +24,13 @@ pub record Walkable (label token first next : List ℕ) (count : ℕ) : Type 0 w
   pub some-node : 0 < count
   pub tokens : count ≤ length token
   pub firsts : count ≤ length first
-  pub numbers : (v : ℕ) → v < count → getD token v 0 ≤ 256
   pub rooted : eqb (getD first 0 0) 0 ≡ false
   pub below : (v x w : ℕ) → v < count → childBy (tables [] label token first next) count v x ≡ some w → w < count
+
+-- the first n entries of a list, the last of them first
+abbrev pub newest : List ℕ → ℕ → List ℕ
+newest l zero = []
+newest l (suc n) = getD l n 0 ∷ newest l n
 
 -- a child's number, 0 for none
 abbrev pub numberOf : Option ℕ → ℕ
@@ -44,7 +48,7 @@ stopOf none = Nothing
 stopOf (some x) = Byte x
 
 abbrev pub arrivalOf : Reached ℕ → Arrival
-arrivalOf r = record { node = r .node; depth = r .depth; stop = stopOf (r .closing); marked = r .marked }
+arrivalOf r = record { node = r .node; depth = r .depth; stop = stopOf (r .closing); met = length (r .tokens) }
 
 -- A list with x at place i, if that is below `room`.
 abbrev pub note : ℕ → ℕ → ℕ → List ℕ → List ℕ

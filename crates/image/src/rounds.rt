@@ -1,6 +1,7 @@
 // The rounds of a sweep, one after the other.
 ghost use mathlib.Core.Path.{_≡_};
 ghost use lib.ListN.{length};
+ghost use Rattle.book.specs.Book.{maxBody};
 ghost use Rattle.whole.specs.Image.{room, hitsOf, fetchesOf, noted};
 ghost use Rattle.image.specs.Walk.{Kids};
 ghost use Rattle.image.specs.Rule5.{tokensOf};
@@ -24,6 +25,7 @@ fn rounds(
     count: usize,
     kids: &[u16],
     shortest: usize,
+    kept: &mut [u16],
     ends: &mut [u32],
     tokens: &mut [u32],
     nodes: &mut [u16],
@@ -33,6 +35,7 @@ fn rounds(
 ) -> Found
     requires given { ⌜ Given (now book) (now image) (now label) (now token) (now first) (now next) count shortest ⌝ }
     requires kids { ⌜ Kids (now label) (now first) (now next) count (now kids) ⌝ }
+    requires room { ⌜ length (now kept) ≡ maxBody ⌝ }
     requires caches { ⌜ Caches (now book) (now image) shortest (now nodes) (now bytes) (now skip) (now pairs) ⌝ }
     ensures hits { λ r. ⌜ r .hits ≡ length (hitsOf (tokensOf (now (book .entry))) (now (image .entry))) ⌝ }
     ensures fetched { λ r. ⌜ r .fetched ≡ fetchesOf (tokensOf (now (book .entry))) (now (image .entry)) ⌝ }
@@ -58,6 +61,7 @@ fn rounds(
             count,
             kids,
             shortest,
+            kept,
             ends,
             tokens,
             nodes,
@@ -101,6 +105,7 @@ pub fn sweep(
         (hitsOf (tokensOf (now (book .entry))) (now (image .entry))) (now (tokens .entry)) ⌝ }
 {
     let kids = walk::root_children(label, first, next, count);
+    let mut kept = [0u16; Book::BODY];
     let mut nodes = [0u16; 1 + Book::BODIES];
     let mut bytes = [0u16; 256 * 64];
     let mut skip = [0u16; 256];
@@ -115,6 +120,7 @@ pub fn sweep(
         count,
         &kids,
         shortest,
+        &mut kept,
         ends,
         tokens,
         &mut nodes,

@@ -6,13 +6,13 @@ ghost use mathlib.Core.List.{List};
 ghost use lib.Dec.{eqb, ltb};
 ghost use lib.ListN.{length};
 ghost use Rattle.book.specs.Book.{maxBody};
-ghost use Rattle.image.specs.Rounds.{met};
-ghost use Rattle.image.specs.Walk.{treeIn, Kids, Noted};
+ghost use Rattle.image.specs.Walk.{Kids, Noted};
 ghost use Rattle.image.specs.Rule5.{BySkip};
-ghost use Rattle.image.specs.Sweeping.{lowestOf, Learns, Given, ByPair, Sees, Caches, Begun, Ended};
+ghost use Rattle.image.specs.Sweeping.{lowestOf, Learns, Given, metAt, ByPair, Sees, Caches, Begun, Ended};
 use crate::caches;
 use crate::walk::Stop;
-use crate::walk::meet;
+use crate::walk::descend;
+use crate::walk::mark;
 
 // The leftmost place that a round at boundary b looked at.
 fn lowest(b: usize, depth: usize, stop: Stop) -> usize
@@ -45,12 +45,12 @@ fn learn(skip: &mut [u16], depth: usize, stop: Stop, by: usize)
 }
 
 // The same for a round that ended at its second byte, and met no token.
-fn learn_pair(pairs: &mut [u16], first: u8, depth: usize, stop: Stop, marked: bool, by: usize)
+fn learn_pair(pairs: &mut [u16], first: u8, depth: usize, stop: Stop, met: usize, by: usize)
     requires { ⌜ (by ≤ maxBody) × (length (now pairs) ≡ 65536) ⌝ }
-    ensures { λ r. ⌜ ((book image : List ℕ) → Sees book image first depth stop marked by
+    ensures { λ r. ⌜ ((book image : List ℕ) → Sees book image first depth stop met by
         → ByPair book image (now (pairs .entry)) → ByPair book image (now (pairs .exit))) ⌝ }
 {
-    if depth != 1 || marked {
+    if depth != 1 || met != 0 {
         return;
     }
     if let Stop::Byte(y) = stop {
@@ -87,6 +87,7 @@ pub fn attempt(
     count: usize,
     kids: &[u16],
     shortest: usize,
+    kept: &mut [u16],
     ends: &mut [u32],
     tokens: &mut [u32],
     nodes: &mut [u16],
@@ -97,27 +98,16 @@ pub fn attempt(
     requires given { ⌜ Given (now book) (now image) (now label) (now token) (now first) (now next) count shortest ⌝ }
     requires begun { ⌜ Begun (now book) (now image) b hits ⌝ }
     requires kids { ⌜ Kids (now label) (now first) (now next) count (now kids) ⌝ }
+    requires room { ⌜ length (now kept) ≡ maxBody ⌝ }
     requires caches { ⌜ Caches (now book) (now image) shortest (now nodes) (now bytes) (now skip) (now pairs) ⌝ }
     ensures ended { λ r. ⌜ Ended (now (book .entry)) (now (image .entry)) b r ⌝ }
-    ensures hits { λ r.
-        let found = met (treeIn (now (label .entry)) (now (token .entry)) (now (first .entry)) (now (next .entry)) count) (now (image .entry)) b in
-        ⌜ Noted (now (ends .entry)) (now (tokens .entry)) hits found (now (ends .exit)) (now (tokens .exit)) (r .hits) ⌝ }
+    ensures hits { λ r. ⌜
+        Noted (now (ends .entry)) (now (tokens .entry)) hits (metAt (now (book .entry)) (now (image .entry)) b)
+        (now (ends .exit)) (now (tokens .exit)) (r .hits)
+        ⌝ }
     ensures caches { λ r. ⌜ Caches (now (book .entry)) (now (image .entry)) shortest (now (nodes .exit)) (now (bytes .exit)) (now (skip .exit)) (now (pairs .exit)) ⌝ }
 {
-    let met = meet(
-        image,
-        label,
-        token,
-        first,
-        next,
-        count,
-        kids,
-        b,
-        hits,
-        ends,
-        tokens,
-    );
-    let arrival = met.arrival;
+    let arrival = descend(image, label, token, first, next, count, kids, b, kept);
     let depth = arrival.depth;
     let stop = arrival.stop;
     let from = b - depth;
@@ -131,11 +121,12 @@ pub fn attempt(
         bytes,
     );
     learn(skip, depth, stop, by);
-    learn_pair(pairs, image[b - 1], depth, stop, arrival.marked, by);
+    learn_pair(pairs, image[b - 1], depth, stop, arrival.met, by);
+    let low = lowest(b, depth, stop);
     Outcome {
         depth,
-        low: lowest(b, depth, stop),
+        low,
         by,
-        hits: met.hits,
+        hits: mark(kept, arrival.met, b, hits, ends, tokens),
     }
 }

@@ -1,15 +1,15 @@
 // A round's way down the tree, and the hits on it.
-ghost use Prim.Native.Nat.{ℕ, _+_, _*_, _^_, _≤_, _<_};
+ghost use Prim.Native.Nat.{ℕ, _+_, _^_, _≤_, _<_};
 ghost use mathlib.Core.Path.{_≡_};
-ghost use mathlib.Core.List.{[]};
+ghost use mathlib.Core.List.{[], map};
 ghost use mathlib.Core.Option.{some};
 ghost use lib.ListN.{length};
-ghost use Rattle.book.specs.Book.{maxTokens, maxBodies, maxImage};
+ghost use Rattle.book.specs.Book.{maxBodies, maxImage};
 ghost use Rattle.tables.specs.Walks.{childBy};
 ghost use Rattle.trie.specs.Answers.{tables, childOf};
 ghost use Rattle.whole.specs.Image.{room};
-ghost use Rattle.image.specs.Rounds.{reached, met};
-ghost use Rattle.image.specs.Walk.{treeIn, Walkable, numberOf, Kids, arrivalOf, note, Noted};
+ghost use Rattle.image.specs.Rounds.{meeting, reached};
+ghost use Rattle.image.specs.Walk.{treeIn, Walkable, newest, numberOf, Kids, arrivalOf, note, Noted};
 use trie::Child;
 use trie::entries::wide;
 
@@ -19,12 +19,12 @@ pub enum Stop {
     Nothing,
 }
 
-// Where a round ended, and whether it met a token.
+// Where a round ended, and how many tokens it met on its way.
 pub struct Arrival {
     pub node: usize,
     pub depth: usize,
     pub stop: Stop,
-    pub marked: bool,
+    pub met: usize,
 }
 
 // A child's number, 0 for none.
@@ -50,8 +50,21 @@ pub fn root_children(label: &[u8], first: &[u16], next: &[u16], count: usize) ->
     kids
 }
 
-// Rules 2 and 3 in a round at boundary b: as far down as the image's bytes lead.
-fn descend(
+// Keeps a token's number behind the n before it; 0 is none. Answers how many there are then.
+fn keep(kept: &mut [u16], n: usize, number: u16) -> usize
+    requires { ⌜ n < length (now kept) ⌝ }
+    ensures size { λ r. ⌜ r ≡ length (meeting (newest (now (kept .entry)) n) number) ⌝ }
+    ensures kept { λ r. ⌜ newest (now (kept .exit)) r ≡ meeting (newest (now (kept .entry)) n) number ⌝ }
+{
+    if number == 0 {
+        return n;
+    }
+    kept[n] = number;
+    n + 1
+}
+
+// Rules 2 and 3 in a round at boundary b: as far down as the image's bytes lead. The tokens on the way are kept, the longest last.
+pub fn descend(
     image: &[u8],
     label: &[u8],
     token: &[u16],
@@ -60,14 +73,21 @@ fn descend(
     count: usize,
     kids: &[u16],
     b: usize,
+    kept: &mut [u16],
 ) -> Arrival
     requires place { ⌜ (0 < b) × (b ≤ length (now image)) ⌝ }
     requires tables { ⌜ Walkable (now label) (now token) (now first) (now next) count ⌝ }
     requires kids { ⌜ Kids (now label) (now first) (now next) count (now kids) ⌝ }
-    ensures { λ r. ⌜
+    requires room { ⌜ reached (treeIn (now label) (now token) (now first) (now next) count) (now image) b .depth ≤ length (now kept) ⌝ }
+    ensures arrival { λ r. ⌜
         r ≡ arrivalOf (reached (treeIn (now (label .entry)) (now (token .entry)) (now (first .entry)) (now (next .entry)) count)
         (now (image .entry)) b)
         ⌝ }
+    ensures kept { λ r. ⌜
+        newest (now (kept .exit)) (r .met)
+        ≡ reached (treeIn (now (label .entry)) (now (token .entry)) (now (first .entry)) (now (next .entry)) count) (now (image .entry)) b .tokens
+        ⌝ }
+    ensures few { λ r. ⌜ r .met ≤ r .depth ⌝ }
 {
     let x = image[b - 1];
     let mut node = wide(kids[x as usize]);
@@ -76,11 +96,11 @@ fn descend(
             node: 0,
             depth: 0,
             stop: Stop::Byte(x),
-            marked: false,
+            met: 0,
         };
     }
     let mut depth = 1;
-    let mut marked = token[node] != 0;
+    let mut met = keep(kept, 0, token[node]);
     while first[node] != 0 && depth != b {
         let x = image[b - 1 - depth];
         match trie::chain::child(label, first, next, count, node, x) {
@@ -89,13 +109,13 @@ fn descend(
                     node,
                     depth,
                     stop: Stop::Byte(x),
-                    marked,
+                    met,
                 };
             }
             Child::At(v) => {
                 node = v;
                 depth += 1;
-                marked = marked || token[v] != 0;
+                met = keep(kept, met, token[v]);
             }
         }
     }
@@ -103,13 +123,13 @@ fn descend(
         node,
         depth,
         stop: Stop::Nothing,
-        marked,
+        met,
     }
 }
 
 // A hit's end and token, if both buffers have room for it.
-fn put(ends: &mut [u32], tokens: &mut [u32], i: usize, end: usize, number: usize)
-    requires { ⌜ (end ≤ maxImage) × (number ≤ maxTokens) ⌝ }
+fn put(ends: &mut [u32], tokens: &mut [u32], i: usize, end: usize, number: u16)
+    requires { ⌜ end ≤ maxImage ⌝ }
     ensures ends { λ r. ⌜ now (ends .exit) ≡ note (room (now (ends .entry)) (now (tokens .entry))) i end (now (ends .entry)) ⌝ }
     ensures tokens { λ r. ⌜ now (tokens .exit) ≡ note (room (now (ends .entry)) (now (tokens .entry))) i number (now (tokens .entry)) ⌝ }
 {
@@ -119,92 +139,28 @@ fn put(ends: &mut [u32], tokens: &mut [u32], i: usize, end: usize, number: usize
     }
 }
 
-// Rule 3: the hits of a round at boundary b, put into the buffers behind the `hits` before them. Answers how many there are then.
-fn mark(
-    image: &[u8],
-    label: &[u8],
-    token: &[u16],
-    first: &[u16],
-    next: &[u16],
-    count: usize,
+// Rule 3: the hits of a round at boundary b, by the tokens that it met, the longest first, put into the buffers behind the `hits` before
+// them. Answers how many there are then.
+pub fn mark(
+    kept: &[u16],
+    met: usize,
     b: usize,
     hits: usize,
     ends: &mut [u32],
     tokens: &mut [u32],
 ) -> usize
-    requires place { ⌜ (0 < b) × (b ≤ length (now image)) × (b ≤ maxImage) × (hits ≤ 1024 * 1024 * 1024 * 1024) ⌝ }
-    requires tables { ⌜ Walkable (now label) (now token) (now first) (now next) count ⌝ }
-    ensures { λ r.
-        let found = met (treeIn (now (label .entry)) (now (token .entry)) (now (first .entry)) (now (next .entry)) count) (now (image .entry)) b in
-        ⌜ Noted (now (ends .entry)) (now (tokens .entry)) hits found (now (ends .exit)) (now (tokens .exit)) r ⌝ }
+    requires numbers { ⌜ (b ≤ maxImage) × (hits ≤ 2 ^ 36) × (met ≤ length (now kept)) ⌝ }
+    ensures { λ r. ⌜
+        Noted (now (ends .entry)) (now (tokens .entry)) hits (map (λ i. (b, i)) (newest (now (kept .entry)) met))
+        (now (ends .exit)) (now (tokens .exit)) r
+        ⌝ }
 {
-    let mut node = 0;
-    let mut depth = 0;
+    let mut left = met;
     let mut n = hits;
-    while first[node] != 0 && depth != b {
-        match trie::chain::child(label, first, next, count, node, image[b - 1 - depth]) {
-            Child::Absent => {
-                return n;
-            }
-            Child::At(v) => {
-                node = v;
-                depth += 1;
-                let number = wide(token[v]);
-                if number != 0 {
-                    put(ends, tokens, n, b, number);
-                    n += 1;
-                }
-            }
-        }
+    while left != 0 {
+        left -= 1;
+        put(ends, tokens, n, b, kept[left]);
+        n += 1;
     }
     n
-}
-
-// Where a round ended, and how many hits there are then.
-pub struct Met {
-    pub arrival: Arrival,
-    pub hits: usize,
-}
-
-// Rules 2 and 3 at boundary b, with the hits put into the buffers. Most rounds have none, so they are looked for a second time.
-pub fn meet(
-    image: &[u8],
-    label: &[u8],
-    token: &[u16],
-    first: &[u16],
-    next: &[u16],
-    count: usize,
-    kids: &[u16],
-    b: usize,
-    hits: usize,
-    ends: &mut [u32],
-    tokens: &mut [u32],
-) -> Met
-    requires place { ⌜ (0 < b) × (b ≤ length (now image)) × (b ≤ maxImage) × (hits ≤ 2 ^ 36) ⌝ }
-    requires tables { ⌜ Walkable (now label) (now token) (now first) (now next) count ⌝ }
-    requires kids { ⌜ Kids (now label) (now first) (now next) count (now kids) ⌝ }
-    ensures arrival { λ r. ⌜ r .arrival ≡ arrivalOf (reached (treeIn (now (label .entry)) (now (token .entry)) (now (first .entry)) (now (next .entry)) count) (now (image .entry)) b) ⌝ }
-    ensures hits { λ r.
-        let found = met (treeIn (now (label .entry)) (now (token .entry)) (now (first .entry)) (now (next .entry)) count) (now (image .entry)) b in
-        ⌜ Noted (now (ends .entry)) (now (tokens .entry)) hits found (now (ends .exit)) (now (tokens .exit)) (r .hits) ⌝ }
-{
-    let arrival = descend(image, label, token, first, next, count, kids, b);
-    if !arrival.marked {
-        return Met { arrival, hits };
-    }
-    Met {
-        arrival,
-        hits: mark(
-            image,
-            label,
-            token,
-            first,
-            next,
-            count,
-            b,
-            hits,
-            ends,
-            tokens,
-        ),
-    }
 }

@@ -30,11 +30,11 @@ tokens = (97 ∷ []) ∷ (97 ∷ 98 ∷ 97 ∷ []) ∷ []
 abbrev image : List ℕ
 image = 97 ∷ 98 ∷ 97 ∷ 98 ∷ 97 ∷ []
 
-goes-on : listedAt tokens image 3 ≡ (5, 1) ∷ (5, 2) ∷ []
+goes-on : listedAt tokens image 3 ≡ (5, 2) ∷ (5, 1) ∷ []
 unfolding happens trace
 goes-on = refl
 
-lists-all : listedFrom tokens image 5 0 ≡ (1, 1) ∷ (3, 1) ∷ (3, 2) ∷ (5, 1) ∷ (5, 2) ∷ []
+lists-all : listedFrom tokens image 5 0 ≡ (1, 1) ∷ (3, 2) ∷ (3, 1) ∷ (5, 2) ∷ (5, 1) ∷ []
 unfolding happens trace
 lists-all = refl
 

@@ -47,11 +47,11 @@ answers-told : answers
 unfolding answers
 answers-told = refl
 
--- 23 numbers, all different
+-- 25 numbers, all different
 state : List ℕ
 state =
     30 ∷ 20 ∷ 21 ∷ 25 ∷ 2 ∷ 3 ∷ 1 ∷ 7
-    ∷ 8 ∷ 9 ∷ 10 ∷ 11 ∷ 12 ∷ 13 ∷ 14 ∷ 15 ∷ 16 ∷ 17 ∷ 18 ∷ 19 ∷ 26 ∷ 27 ∷ 28 ∷ []
+    ∷ 8 ∷ 9 ∷ 10 ∷ 11 ∷ 12 ∷ 13 ∷ 14 ∷ 15 ∷ 16 ∷ 17 ∷ 18 ∷ 19 ∷ 26 ∷ 27 ∷ 28 ∷ 29 ∷ 31 ∷ []
 
 there-and-back : numbersOf (stateIn state) ≡ state
 unfolding state
@@ -78,16 +78,16 @@ stay s = record { state = s; answer = over }
 rows : List Lent
 unfolding state stay
 rows =
-    stepIn stay (state ++ (5 ∷ 6 ∷ [])) ∷ stepIn stay (take 22 state) ∷ stepIn stay (set state 6 2)
-    ∷ startIn (start 8 5 6) (state ++ (5 ∷ [])) ∷ startIn (start 16777217 5 6) state ∷ startIn (start 8 5 6) (take 22 state)
+    stepIn stay (state ++ (5 ∷ 6 ∷ [])) ∷ stepIn stay (take 24 state) ∷ stepIn stay (set state 6 2)
+    ∷ startIn (start 8 5 6) (state ++ (5 ∷ [])) ∷ startIn (start 16777217 5 6) state ∷ startIn (start 8 5 6) (take 24 state)
     ∷ []
 
 left : List ℕ → ℕ → ℕ → ℕ → Lent
 left ns kind a b = record { state = ns; told = told kind a b 0 0 }
 
 rows-left : rows
-    ≡ left (state ++ (5 ∷ 6 ∷ [])) 3 0 0 ∷ left (take 22 state) 4 0 0 ∷ left (set state 6 2) 4 0 0
-    ∷ left (8 ∷ 5 ∷ 6 ∷ 5 ∷ replicate 19 0 ++ (5 ∷ [])) 1 0 0 ∷ left (replicate 23 0) 0 8 16777216 ∷ left (take 22 state) 4 0 0
+    ≡ left (state ++ (5 ∷ 6 ∷ [])) 3 0 0 ∷ left (take 24 state) 4 0 0 ∷ left (set state 6 2) 4 0 0
+    ∷ left (8 ∷ 5 ∷ 6 ∷ 5 ∷ replicate 21 0 ++ (5 ∷ [])) 1 0 0 ∷ left (replicate 25 0) 0 8 16777216 ∷ left (take 24 state) 4 0 0
     ∷ []
 unfolding rows left state stay
 rows-left = refl

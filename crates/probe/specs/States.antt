@@ -1,5 +1,5 @@
--- The scan state as the first 23 numbers of a lent list: N, S, the node count, b, node, d, whether a byte is due, bytes supplied, and
--- five stretches of left, right and node. What follows them stays.
+-- The scan state as the first 25 numbers of a lent list: N, S, the node count, b, node, d, whether a byte is due, bytes supplied, five
+-- stretches of left, right and node, and the end and the node of the next hit that is left. What follows them stays.
 use Prim.Native.Nat.{ℕ, _+_}
 use mathlib.Core.Bool.{Bool, true, false, _&&_}
 use mathlib.Core.List.{List, [], _∷_, _++_}
@@ -23,11 +23,15 @@ slotNumbers (s ∷ ss) = s .left ∷ s .right ∷ s .node ∷ slotNumbers ss
 
 abbrev pub numbersOf : Scan → List ℕ
 numbersOf s =
-    s .image ∷ s .shortest ∷ s .count ∷ s .boundary ∷ s .node ∷ s .depth ∷ flag (s .due) ∷ s .supplied ∷ slotNumbers (s .stretches)
+    s .image ∷ s .shortest ∷ s .count ∷ s .boundary ∷ s .node ∷ s .depth ∷ flag (s .due) ∷ s .supplied
+    ∷ (slotNumbers (s .stretches) ++ (s .end ∷ s .hit ∷ []))
+
+abbrev pub size : ℕ
+size = 25
 
 -- A list is long enough for a state; and it begins with one, if the number that says whether a byte is due is 0 or 1.
 abbrev pub hasRoom : List ℕ → Bool
-hasRoom ns = leb 23 (length ns)
+hasRoom ns = leb size (length ns)
 
 abbrev pub isState : List ℕ → Bool
 isState ns = hasRoom ns && leb (getD ns 6 0) 1
@@ -46,10 +50,12 @@ stateIn ns = record {
   due = eqb (getD ns 6 0) 1;
   stretches = slotIn ns 8 ∷ slotIn ns 11 ∷ slotIn ns 14 ∷ slotIn ns 17 ∷ slotIn ns 20 ∷ [];
   supplied = getD ns 7 0;
+  end = getD ns 23 0;
+  hit = getD ns 24 0;
 }
 
 abbrev pub laidOver : Scan → List ℕ → List ℕ
-laidOver s ns = numbersOf s ++ drop 23 ns
+laidOver s ns = numbersOf s ++ drop size ns
 
 -- What a call tells, and what the lent list then holds.
 pub record Lent : Type 0 where

@@ -1,18 +1,18 @@
-// The scan state as lent numbers: N, S, the node count, b, node, d, whether a byte is due (1), bytes supplied, and five stretches of
-// left, right and node.
+// The scan state as lent numbers: N, S, the node count, b, node, d, whether a byte is due (1), bytes supplied, five stretches of left,
+// right and node, and the end and the node of the next hit that is left.
 ghost use mathlib.Core.Path.{_≡_};
 ghost use mathlib.Core.Bool.{true};
 ghost use Prim.Native.Nat.{_+_, _≤_};
 ghost use lib.ListN.{length};
 ghost use Rattle.scan.specs.Results.{steppedOf};
-ghost use Rattle.probe.specs.States.{flag, slotIn, noState, isState, stateIn, laidOver, handed};
+ghost use Rattle.probe.specs.States.{flag, size, slotIn, noState, isState, stateIn, laidOver, handed};
 use crate::Told;
 use crate::answers;
 use scan::Scan;
 use scan::Stepped;
 use scan::Stretch;
 
-pub const NUMBERS: usize = 23;
+pub const NUMBERS: usize = 25;
 
 pub fn no_state() -> Told
     ensures { λ r. ⌜ r ≡ noState ⌝ }
@@ -41,7 +41,7 @@ fn stretch(numbers: &[usize], at: usize) -> Stretch
 }
 
 pub fn state_in(numbers: &[usize]) -> Scan
-    requires { ⌜ 23 ≤ length (now numbers) ⌝ }
+    requires { ⌜ size ≤ length (now numbers) ⌝ }
     ensures { λ r. ⌜ r ≡ stateIn (now (numbers .entry)) ⌝ }
 {
     Scan {
@@ -60,6 +60,8 @@ pub fn state_in(numbers: &[usize]) -> Scan
             stretch(numbers, 20),
         ],
         supplied: numbers[7],
+        end: numbers[23],
+        hit: numbers[24],
     }
 }
 
@@ -71,7 +73,7 @@ fn due_number(due: bool) -> usize
 
 // Numbers behind those of the state stay.
 pub fn lay(numbers: &mut [usize], s: Scan)
-    requires { ⌜ 23 ≤ length (now numbers) ⌝ }
+    requires { ⌜ size ≤ length (now numbers) ⌝ }
     ensures { λ _. ⌜ now (numbers .exit) ≡ laidOver s (now (numbers .entry)) ⌝ }
 {
     let slots = s.stretches;
@@ -98,11 +100,13 @@ pub fn lay(numbers: &mut [usize], s: Scan)
     numbers[20] = slots[4].left;
     numbers[21] = slots[4].right;
     numbers[22] = slots[4].node;
+    numbers[23] = s.end;
+    numbers[24] = s.hit;
 }
 
 // A step's next state is laid over the numbers it was read from.
 pub fn hand_back(numbers: &mut [usize], stepped: Stepped) -> Told
-    requires { ⌜ 23 ≤ length (now numbers) ⌝ }
+    requires { ⌜ size ≤ length (now numbers) ⌝ }
     ensures { λ r. ⌜ record { state = now (numbers .exit); told = r } ≡ handed (steppedOf stepped) (now (numbers .entry)) ⌝ }
 {
     let state = stepped.state;

@@ -1,5 +1,6 @@
 -- Sample sweeps by the rules over tokens, as one table: P1 to P5 of document 01, and three that pin rule 4 and the byte taken from
--- a stretch. Each row says the hits, the places fetched, and the limit on them; and each sweep ends with done.
+-- a stretch. Each row says the hits, the places fetched, and the limit on them; and each sweep ends with done. And all events of
+-- one more.
 use Prim.Native.Nat.{ℕ}
 use mathlib.Core.Path.{_≡_, refl}
 use mathlib.Core.Bool.{Bool, true, false, _&&_}
@@ -53,7 +54,7 @@ abbrev pub p3 : Sample
 p3 = record {
   tokens = (a ∷ []) ∷ (a ∷ a ∷ []) ∷ [];
   image = replicate 3 a;
-  found = (1, 1) ∷ (2, 1) ∷ (2, 2) ∷ (3, 1) ∷ (3, 2) ∷ [];
+  found = (1, 1) ∷ (2, 2) ∷ (2, 1) ∷ (3, 2) ∷ (3, 1) ∷ [];
   fetches = 0 ∷ 1 ∷ 0 ∷ 2 ∷ 1 ∷ [];
   most = 17;
 }
@@ -69,7 +70,7 @@ abbrev pub inside : Sample
 inside = record {
   tokens = (a ∷ a ∷ a ∷ a ∷ a ∷ []) ∷ (a ∷ a ∷ []) ∷ [];
   image = replicate 6 a;
-  found = (2, 2) ∷ (3, 2) ∷ (4, 2) ∷ (5, 2) ∷ (5, 1) ∷ (6, 2) ∷ (6, 1) ∷ [];
+  found = (2, 2) ∷ (3, 2) ∷ (4, 2) ∷ (5, 1) ∷ (5, 2) ∷ (6, 1) ∷ (6, 2) ∷ [];
   fetches = 1 ∷ 0 ∷ 2 ∷ 1 ∷ 0 ∷ 3 ∷ 2 ∷ 1 ∷ 0 ∷ 4 ∷ 5 ∷ [];
   most = 64;
 }
@@ -79,7 +80,7 @@ abbrev pub recalledLeft : Sample
 recalledLeft = record {
   tokens = (b ∷ a ∷ a ∷ b ∷ []) ∷ (a ∷ b ∷ []) ∷ (a ∷ []) ∷ [];
   image = b ∷ b ∷ a ∷ a ∷ b ∷ b ∷ a ∷ a ∷ a ∷ [];
-  found = (3, 3) ∷ (4, 3) ∷ (5, 2) ∷ (5, 1) ∷ (7, 3) ∷ (8, 3) ∷ (9, 3) ∷ [];
+  found = (3, 3) ∷ (4, 3) ∷ (5, 1) ∷ (5, 2) ∷ (7, 3) ∷ (8, 3) ∷ (9, 3) ∷ [];
   fetches = 0 ∷ 1 ∷ 0 ∷ 2 ∷ 3 ∷ 4 ∷ 3 ∷ 2 ∷ 1 ∷ 5 ∷ 6 ∷ 7 ∷ 8 ∷ [];
   most = 89;
 }
@@ -125,3 +126,9 @@ allRight (s ∷ ss) = right s && allRight ss
 samples-right : allRight (p1 ∷ p2 ∷ p3 ∷ p4 ∷ p5 ∷ inside ∷ recalledLeft ∷ recalledRight ∷ []) ≡ true
 unfolding allRight happens trace
 samples-right = refl
+
+-- All that happens in the image "aa" with the tokens "a" and "aa": the hits of a round come when it ends, before its shift.
+events-right : happens ((a ∷ []) ∷ (a ∷ a ∷ []) ∷ []) 2 (bytesOf (a ∷ a ∷ []))
+    ≡ fetched 0 ∷ hit 1 1 ∷ shifted 2 [] ∷ fetched 1 ∷ fetched 0 ∷ hit 2 2 ∷ hit 2 1 ∷ shifted 3 [] ∷ done ∷ []
+unfolding happens trace
+events-right = refl

@@ -33,8 +33,8 @@ pub record Config (E : Type 0) : Type 0 where
   pub depth : ℕ
   pub stretches : List (Stretch E)
 
--- What happens, in order: a place is fetched, or its byte is taken from a stretch; a hit (end, token); a round ends and
--- leaves a boundary and stretches; the sweep is done.
+-- What happens, in order: a place is fetched, or its byte is taken from a stretch; a hit (end, token) of a round that ends; it leaves
+-- a boundary and stretches; the sweep is done.
 pub data Event (E : Type 0) : Type 0 where
   fetched : ℕ → Event E
   recalled : ℕ → Event E
@@ -62,7 +62,7 @@ module _ {E : Type 0} where
   abbrev pub place : Config E → ℕ
   place c = c .boundary - 1 - c .depth
 
-  -- Rule 3: the hit of a node that carries token t, if it carries one.
+  -- Rule 3: the hit of token t, if there is one.
   abbrev pub hitAt : ℕ → ℕ → List (Event E)
   hitAt end zero = []
   hitAt end (suc t) = hit end (suc t) ∷ []
@@ -127,16 +127,21 @@ module _ {E : Type 0} (tree : Tree E) where
     stretches = select (kept (c .boundary + s)) (ended c);
   }
 
-  -- Rules 4 to 6: a round ends, with the byte that did not match (document 01: closing byte), if there is one.
+  -- Rule 3: the hits of a round that comes to node v, k deep: the tokens on the way from there to the root, the longest first.
+  abbrev pub hitsUp : ℕ → E → ℕ → List (Event E)
+  hitsUp end v zero = []
+  hitsUp end v (suc k) = hitAt end (tree .token (tree .ancestor v (suc k))) ++ hitsUp end v k
+
+  -- A round ends, with the byte that did not match (document 01: closing byte), if there is one: its hits, then rules 4 to 6.
   abbrev pub endRound : Config E → Option ℕ → Step E
   endRound c closing =
       let c′ = shiftedBy c (tree .shift (c .node) closing) in
-      record { events = shifted (c′ .boundary) (c′ .stretches) ∷ []; config = c′ }
+      record { events = hitsUp (c .boundary) (c .node) (c .depth) ++ (shifted (c′ .boundary) (c′ .stretches) ∷ []); config = c′ }
 
   -- Rule 3: a round takes the byte x; the argument is the child with that label.
   abbrev pub taken : Config E → ℕ → Option E → Step E
   taken c x none = endRound c (some x)
-  taken c x (some v) = record { events = hitAt (c .boundary) (tree .token v); config = deeper c v }
+  taken c x (some v) = record { events = []; config = deeper c v }
 
   abbrev pub takeByte : Config E → ℕ → Step E
   takeByte c x = taken c x (tree .child (c .node) x)

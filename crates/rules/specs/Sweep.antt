@@ -53,21 +53,30 @@ abbrev pub Once : {A : Type 0} → List A → Type 0
 Once [] = Unit {0}
 Once (h ∷ hs) = (List·Memᴰ h hs → ⊥) × Once hs
 
--- the ends never fall along the list
-abbrev pub Ordered : List (ℕ × ℕ) → Type 0
-Ordered [] = Unit {0}
-Ordered (h ∷ hs) = ((e i : ℕ) → List·Memᴰ (e, i) hs → h .0 ≤ e) × Ordered hs
+-- the length of the token with a number, from 1
+abbrev pub lengthOf : List (List ℕ) → ℕ → ℕ
+lengthOf tokens zero = 0
+lengthOf tokens (suc i) = length (getD tokens i [])
+
+-- Hit g comes before hit h: ends rise, and at one end the tokens' lengths fall.
+abbrev pub Before : List (List ℕ) → ℕ × ℕ → ℕ × ℕ → Type 0
+Before tokens g h = (g .0 ≤ h .0) × (h .0 ≤ g .0 → lengthOf tokens (h .1) < lengthOf tokens (g .1))
+
+-- each hit comes before those that follow it
+abbrev pub Ordered : List (List ℕ) → List (ℕ × ℕ) → Type 0
+Ordered tokens [] = Unit {0}
+Ordered tokens (g ∷ hs) = ((h : ℕ × ℕ) → List·Memᴰ h hs → Before tokens g h) × Ordered tokens hs
 
 -- a hit, n places further right
 abbrev pub further : ℕ → ℕ × ℕ → ℕ × ℕ
 further n h = (n + h .0, h .1)
 
--- The hits are exactly the occurrences, each one time, from left to right.
+-- The hits are exactly the occurrences, each one time, from left to right, and at one end the longest token first.
 pub record Occurrences (tokens : List (List ℕ)) (image : List ℕ) (found : List (ℕ × ℕ)) : Type 0 where
   pub sound : (e i : ℕ) → List·Memᴰ (e, i) found → Stands tokens image e (i - 1) × (1 ≤ i)
   pub complete : (e i : ℕ) → Stands tokens image e i → List·Memᴰ (e, i + 1) found
   pub once : Once found
-  pub ordered : Ordered found
+  pub ordered : Ordered tokens found
 
 -- the number of base-4 digits of m, with fuel, of which m is enough
 abbrev pub digitsIn : ℕ → ℕ → ℕ

@@ -5,9 +5,11 @@ pub mod Shift
 pub mod Stretches
 pub mod StretchesSift
 pub mod StretchesRemember
+pub mod Hits
 pub mod RangesDepth
 pub mod RangesStretches
 pub mod RangesDue
+pub mod RangesLeft
 pub mod Ranges
 pub mod Steps
 pub mod StepsChoose

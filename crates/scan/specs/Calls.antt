@@ -3,9 +3,12 @@ use Prim.Native.Nat.{ℕ, zero, suc, _+_, _*_, min}
 use mathlib.Core.Bool.{Bool, true, false, not}
 use mathlib.Core.List.{List, [], _∷_}
 use mathlib.Core.Option.{Option, some, none}
-use Rattle.rules.specs.Rules.{Config, Event, fetched, recalled, hit, shifted, done, finished, wants, goes, takeByte, next}
+use lib.ListN.{getD}
+use Rattle.rules.specs.Rules.{Config, Event, Step, finished, wants, goes, takeByte, next}
+use Rattle.rules.specs.Sweep.{hits}
 use Rattle.book.specs.Book.{maxBody}
 use Rattle.tables.specs.Tables.{Tables}
+use Rattle.tables.specs.Walks.{carrier}
 use Rattle.tables.specs.Broken.{broken}
 use Rattle.scan.specs.declared.Scan.{Scan}
 use Rattle.scan.specs.State.{laid, configOf, treeOf, maxSupplied, maxStretches, inRange}
@@ -28,20 +31,6 @@ stepRefusal (found e i) = (0, 0)
 stepRefusal over = (0, 0)
 stepRefusal (refused k v) = (k, v)
 
--- the same state at another configuration
-abbrev pub moved : Scan → Config ℕ → Bool → Scan
-moved s c due = record {
-  image = s .image;
-  shortest = s .shortest;
-  count = s .count;
-  boundary = c .boundary;
-  node = c .node;
-  depth = c .depth;
-  due = due;
-  stretches = laid maxStretches (c .stretches);
-  supplied = s .supplied;
-}
-
 -- One byte more is supplied; the count stops.
 abbrev pub counted : Scan → Scan
 counted s = record {
@@ -54,32 +43,84 @@ counted s = record {
   due = false;
   stretches = s .stretches;
   supplied = min maxSupplied (s .supplied + 1);
+  end = s .end;
+  hit = s .hit;
 }
 
--- the hit among the events of one step, of which there is at most one
-pub data Hit : Type 0 where
-  noHit : Hit
-  hitOf : ℕ → ℕ → Hit
+-- A byte is due.
+abbrev pub awaiting : Scan → Scan
+awaiting s = record {
+  image = s .image;
+  shortest = s .shortest;
+  count = s .count;
+  boundary = s .boundary;
+  node = s .node;
+  depth = s .depth;
+  due = true;
+  stretches = s .stretches;
+  supplied = s .supplied;
+  end = s .end;
+  hit = s .hit;
+}
 
-abbrev pub hitIn : {E : Type 0} → List (Event E) → Hit
-hitIn [] = noHit
-hitIn (fetched at ∷ es) = hitIn es
-hitIn (recalled at ∷ es) = hitIn es
-hitIn (hit e t ∷ es) = hitOf e t
-hitIn (shifted b ss ∷ es) = hitIn es
-hitIn (done ∷ es) = hitIn es
+-- the same state at another configuration
+abbrev pub moved : Scan → Config ℕ → Scan
+moved s c = record {
+  image = s .image;
+  shortest = s .shortest;
+  count = s .count;
+  boundary = c .boundary;
+  node = c .node;
+  depth = c .depth;
+  due = s .due;
+  stretches = laid maxStretches (c .stretches);
+  supplied = s .supplied;
+  end = s .end;
+  hit = s .hit;
+}
 
--- A call runs on until it can answer.
-abbrev pub settle : Tables → Scan → ℕ → Config ℕ → Stepped
-settle t s zero c = record { state = s; answer = over }
-settle t s (suc fuel) c =
-    elim (next (treeOf t s) (s .image) c) [
-      | finished ↦ record { state = moved s c false; answer = over }
-      | wants at ↦ record { state = moved s c true; answer = fetch at }
-      | goes w ↦ elim (hitIn (w .events)) [
-        | noHit ↦ settle t s fuel (w .config)
-        | hitOf e i ↦ record { state = moved s (w .config) false; answer = found e i }
+-- The hits with this end are left to be answered, that of node v next; none where v is the root.
+abbrev pub owing : Scan → ℕ → ℕ → Scan
+owing s end v = record {
+  image = s .image;
+  shortest = s .shortest;
+  count = s .count;
+  boundary = s .boundary;
+  node = s .node;
+  depth = s .depth;
+  due = s .due;
+  stretches = s .stretches;
+  supplied = s .supplied;
+  end = elim v [ zero ↦ 0 | suc w ↦ end ];
+  hit = v;
+}
+
+-- The next hit that is left is answered. After it comes that of the nearest node above that carries a token.
+abbrev pub told : Tables → Scan → Stepped
+told t s = record {
+  state = owing s (s .end) (carrier t (getD (t .parent) (s .hit) 0));
+  answer = found (s .end) (getD (t .token) (s .hit) 0);
+}
+
+-- the node of the first hit of a step, which ends its round at node v then; the root for none
+abbrev pub firstHit : Tables → ℕ → List (Event ℕ) → ℕ
+firstHit t v es = elim (hits es) [ [] ↦ 0 | h ∷ hs ↦ carrier t v ]
+
+-- A step of the rules: the state stands where it leads, and its hits are left.
+abbrev pub stepped : Tables → Scan → Step ℕ → Scan
+stepped t s w = owing (moved s (w .config)) (s .boundary) (firstHit t (s .node) (w .events))
+
+-- A call runs on until it can answer: a hit that is left, a place to fetch, or done.
+abbrev pub settle : Tables → ℕ → Scan → Stepped
+settle t zero s = record { state = s; answer = over }
+settle t (suc fuel) s =
+    elim (s .hit) [
+      | zero ↦ elim (next (treeOf t s) (s .image) (configOf s)) [
+        | finished ↦ record { state = s; answer = over }
+        | wants at ↦ record { state = awaiting s; answer = fetch at }
+        | goes w ↦ settle t fuel (stepped t s w)
       ]
+      | suc v ↦ told t s
     ]
 
 -- steps enough: each takes a byte of a round, of which there are at most 1,024, or ends the round and raises the boundary
@@ -111,7 +152,7 @@ abbrev pub carryOn : Tables → Scan → Stepped
 carryOn t s =
     elim (judged t s false) [
       | some a ↦ record { state = s; answer = a }
-      | none ↦ settle t s (enough s) (configOf s)
+      | none ↦ settle t (enough s) s
     ]
 
 -- Supplying the byte x.
@@ -119,9 +160,5 @@ abbrev pub supply : Tables → Scan → ℕ → Stepped
 supply t s x =
     elim (judged t s true) [
       | some a ↦ record { state = s; answer = a }
-      | none ↦ (let w = takeByte (treeOf t s) (configOf s) x in
-          elim (hitIn (w .events)) [
-            | noHit ↦ settle t (counted s) (enough s) (w .config)
-            | hitOf e i ↦ record { state = moved (counted s) (w .config) false; answer = found e i }
-          ])
+      | none ↦ settle t (enough s) (stepped t (counted s) (takeByte (treeOf t s) (configOf s) x))
     ]

@@ -2,7 +2,7 @@
 -- and of steps that are refused or done.
 use Prim.Native.Nat.{ℕ, zero, suc, _+_}
 use mathlib.Core.Path.{_≡_, refl}
-use mathlib.Core.Bool.{Bool, true, false, _&&_}
+use mathlib.Core.Bool.{Bool, true, false, _&&_, not}
 use mathlib.Core.List.{List, [], _∷_, _++_}
 use mathlib.Core.Option.{some}
 use lib.ListN.{replicate}
@@ -14,7 +14,7 @@ use Rattle.scan.specs.State.{laid, inRange}
 use Rattle.scan.specs.Start.{started, start}
 use Rattle.scan.specs.declared.Answer.the-variants.{Broken, OutOfRange, OutOfTurn}
 use Rattle.scan.specs.declared.Opening.the-variants.{TooLong}
-use Rattle.scan.specs.Calls.{fetch, over, refused, stepRefusal, agree, judged, carryOn}
+use Rattle.scan.specs.Calls.{Answer, fetch, found, over, refused, Stepped, stepRefusal, counted, agree, judged, carryOn, supply}
 use Rattle.scan.specs.Results.{verdictOf, answerOf}
 
 count : ℕ → ℕ → List ℕ
@@ -52,6 +52,8 @@ row n s k b v d ss due supplied ranged = record {
     due = due;
     stretches = laid 5 ss;
     supplied = supplied;
+    end = 0;
+    hit = 0;
   };
   ranged = ranged;
 }
@@ -153,6 +155,95 @@ due-right : allRight (
 unfolding row two stretch chain count allRight
 due-right = refl
 
+-- The tables of "a", "aa" and so on, each a token: node v is v deep and carries token v.
+nested : ℕ → Tables
+unfolding count
+nested n = record {
+  parent = 0 ∷ count 0 n;
+  label = 0 ∷ replicate n 97;
+  token = count 0 (1 + n);
+  first = count 1 n ++ (0 ∷ []);
+  next = replicate (1 + n) 0;
+}
+
+-- the same, but "aa" is no token
+gapped : Tables
+unfolding nested count
+gapped = record {
+  parent = nested 4 .parent;
+  label = nested 4 .label;
+  token = 0 ∷ 1 ∷ 0 ∷ 3 ∷ 4 ∷ [];
+  first = nested 4 .first;
+  next = nested 4 .next;
+}
+
+-- N, S, the number of nodes, b, node and d, the first slots, whether a byte is due, the end of the hits that are left and the node of the
+-- next
+waits : ℕ → ℕ → ℕ → ℕ → ℕ → List (Stretch ℕ) → Bool → ℕ → ℕ → Scan
+waits n s k b v ss due end hit = record {
+  image = n;
+  shortest = s;
+  count = k;
+  boundary = b;
+  node = v;
+  depth = v;
+  due = due;
+  stretches = laid 5 ss;
+  supplied = 0;
+  end = end;
+  hit = hit;
+}
+
+-- the first state is in its ranges over the tables, and the second is not
+edge : Tables → Scan → Scan → Bool
+edge t s u = inRange t s && not (inRange t u)
+
+-- The hits that are left. None: the end is 0.
+left-none : edge (nested 4) (waits 9 3 4 7 0 [] false 0 0) (waits 9 3 4 7 0 [] false 1 0) ≡ true
+unfolding edge waits nested count
+left-none = refl
+
+-- The node of the next is below the count, carries a token,
+left-node : edge (nested 4) (waits 9 3 4 7 0 [] false 5 3) (waits 9 3 4 7 0 [] false 5 4) ≡ true
+unfolding edge waits nested count
+left-node = refl
+
+left-token : edge gapped (waits 9 3 4 7 0 [] false 5 1) (waits 9 3 4 7 0 [] false 5 2) ≡ true
+unfolding edge waits gapped nested count
+left-token = refl
+
+-- and is no deeper than the end.
+left-deep : edge (nested 4) (waits 9 3 4 4 0 [] false 2 2) (waits 9 3 4 3 0 [] false 1 2) ≡ true
+unfolding edge waits nested count
+left-deep = refl
+
+-- The end lies in the image, before b, by S at most.
+left-image : edge (nested 4) (waits 5 3 4 7 0 [] false 5 2) (waits 4 3 4 7 0 [] false 5 2) ≡ true
+unfolding edge waits nested count
+left-image = refl
+
+left-before : edge (nested 4) (waits 9 3 4 6 0 [] false 5 2) (waits 9 3 4 5 0 [] false 5 2) ≡ true
+unfolding edge waits nested count
+left-before = refl
+
+left-near : edge (nested 4) (waits 9 3 4 8 0 [] false 5 2) (waits 9 3 4 9 0 [] false 5 2) ≡ true
+unfolding edge waits nested count
+left-near = refl
+
+-- The round stands at the root, no byte is due, and no stretch reaches past the end.
+left-root : edge (nested 4) (waits 9 3 4 7 0 [] false 5 2) (waits 9 3 4 7 1 [] false 5 2) ≡ true
+unfolding edge waits nested count
+left-root = refl
+
+left-due : edge (nested 4) (waits 9 3 4 7 0 [] false 5 2) (waits 9 3 4 7 0 [] true 5 2) ≡ true
+unfolding edge waits nested count
+left-due = refl
+
+left-stretch : edge (nested 48) (waits 120 20 49 100 0 (stretch 50 90 40 ∷ stretch 90 98 8 ∷ []) false 98 20)
+    (waits 120 20 49 100 0 (stretch 50 90 40 ∷ stretch 90 98 8 ∷ []) false 97 20) ≡ true
+unfolding edge waits stretch nested count
+left-stretch = refl
+
 -- Starting: 8 comes above the limit.
 start-at-limit : start 16777216 20 21 ≡ accepted (started 16777216 20 21)
 start-at-limit = refl
@@ -186,6 +277,31 @@ still-done : carryOn chain (row 30 20 21 31 5 5 [] false 7 true .state)
     ≡ record { state = row 30 20 21 31 5 5 [] false 7 true .state; answer = over }
 unfolding chain count row
 still-done = refl
+
+-- The hits that are left are answered one by one, the longest token first, and done after the last; a byte then meets 11.
+said : Stepped → ℕ → List Answer
+said r zero = []
+said r (suc n) = r .answer ∷ said (carryOn gapped (r .state)) n
+
+hits-then-done : said (carryOn gapped (waits 5 2 5 6 0 [] false 5 4)) 5 ≡ found 5 4 ∷ found 5 3 ∷ found 5 1 ∷ over ∷ over ∷ []
+unfolding said waits gapped nested count
+hits-then-done = refl
+
+supply-with-hits : judged gapped (waits 9 2 5 6 0 [] false 5 4) true ≡ some (refused 11 0)
+unfolding waits gapped nested count
+supply-with-hits = refl
+
+-- The round's last byte is in, and leads to a child or to none: its longest hit is answered, and the state stands at the next round's
+-- start, with the others left.
+last-matches : supply gapped (waits 9 1 5 5 3 [] true 0 0) 97
+    ≡ record { state = counted (waits 9 1 5 6 0 (stretch 1 5 4 ∷ []) false 5 3); answer = found 5 4 }
+unfolding waits stretch gapped nested count
+last-matches = refl
+
+last-differs : supply gapped (waits 9 1 5 5 2 [] true 0 0) 98
+    ≡ record { state = counted (waits 9 1 5 6 0 [] false 0 0); answer = found 5 1 }
+unfolding waits gapped nested count
+last-differs = refl
 
 -- The number comes first, then the value; both are 0 where there is no refusal.
 refused-told : stepRefusal (refused 9 4) ≡ (9, 4)

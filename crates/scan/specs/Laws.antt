@@ -2,14 +2,13 @@
 -- and that a call in turn answers what the rules say next (Settle). Over any tables that pass refusal 9: a state in its ranges
 -- (Within) stays there by a step (Stay) and by a call (Kept), and carrying on when done changes nothing (Done). Slots: the stretches in
 -- a state are those laid there. Of the code: what it finds in the tables that it climbs (Ways, Memory).
-pub mod Mild
 pub mod Slots
 pub mod Ways
-pub mod Walk
 pub mod Within
+pub mod Stay
+pub mod Walk
 pub mod Range
 pub mod Settle
-pub mod Stay
 pub mod Kept
 pub mod Done
 pub mod Memory

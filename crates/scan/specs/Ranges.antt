@@ -6,9 +6,8 @@ use mathlib.Core.Option.{none}
 use Rattle.tables.specs.Broken.{broken}
 use Rattle.trie.specs.Answers.{tables}
 
--- Parents and first children of tables that pass refusal 9.
-pub record Passing (parent first : List ℕ) (count : ℕ) : Type 0 where
+-- Parents, token numbers and first children of tables that pass refusal 9.
+pub record Passing (parent token first : List ℕ) (count : ℕ) : Type 0 where
   pub label : List ℕ
-  pub token : List ℕ
   pub next : List ℕ
   pub fine : broken (tables parent label token first next) count ≡ none

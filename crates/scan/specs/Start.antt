@@ -19,6 +19,8 @@ started n shortest count = record {
   due = false;
   stretches = laid maxStretches [];
   supplied = 0;
+  end = 0;
+  hit = 0;
 }
 
 -- Refusal 8: the image is over its limit.

@@ -1,8 +1,10 @@
--- The scan state of the sweep by single bytes, and its ranges (refusal 10), in document 01's order.
+-- The scan state of the sweep by single bytes, and its ranges (refusal 10), in document 01's order; those of the hits that are left come
+-- last.
 use Prim.Native.Nat.{ℕ, zero, suc, _+_, _-_}
 use mathlib.Core.Bool.{Bool, true, false, _&&_, _||_, not}
 use mathlib.Core.List.{List, [], _∷_}
 use lib.Dec.{leb, ltb, eqb}
+use lib.ListN.{getD}
 use Rattle.rules.specs.Rules.{Tree, Stretch, Config, Next, finished, wants, goes, kept, next}
 use Rattle.book.specs.Book.{maxBodies, maxBody, maxImage}
 use Rattle.tables.specs.Tables.{Tables}
@@ -121,7 +123,28 @@ wantsByte (goes s) = false
 abbrev pub dueOk : Tables → Scan → Bool
 dueOk t s = not (s .due) || wantsByte (next (treeOf t s) (s .image) (configOf s))
 
+-- none of the stretches reaches past place n
+abbrev pub upTo : ℕ → List (Stretch ℕ) → Bool
+upTo n [] = true
+upTo n (m ∷ ms) = leb (m .right) n && upTo n ms
+
+-- The hits that are left end in the image and before b, by S at most; the round stands at the root, so that d is 0, no byte is due, and
+-- no stretch reaches past their end.
+abbrev pub endOk : Scan → Bool
+endOk s =
+    leb (s .end) (s .image) && ltb (s .end) (s .boundary) && leb (s .boundary) (s .end + s .shortest)
+    && eqb (s .node) 0 && not (s .due) && upTo (s .end) (used (s .stretches))
+
+-- The node of the next of them is below the count, carries a token, and is no deeper than its end.
+abbrev pub hitOk : Tables → Scan → Bool
+hitOk t s =
+    ltb (s .hit) (s .count) && not (eqb (getD (t .token) (s .hit) 0) 0) && leb (depth t (s .hit)) (s .end)
+
+-- The root stands for no hit left, and then the end is 0.
+abbrev pub leftOk : Tables → Scan → Bool
+leftOk t s = elim (s .hit) [ zero ↦ eqb (s .end) 0 | suc v ↦ hitOk t s && endOk s ]
+
 -- Refusal 10 does not come: the state is in its ranges.
 abbrev pub inRange : Tables → Scan → Bool
 inRange t s =
-    countOk s && imageOk s && shortestOk s && nodeOk t s && boundaryOk s && suppliedOk s && stretchesOk t s && dueOk t s
+    countOk s && imageOk s && shortestOk s && nodeOk t s && boundaryOk s && suppliedOk s && stretchesOk t s && dueOk t s && leftOk t s

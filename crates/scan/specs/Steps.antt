@@ -1,48 +1,33 @@
--- What the code of a step asks of a state, and what it answers, as the rules have it.
+-- What the code of a step asks of a state, and what comes next, as the rules have it.
 use Prim.Native.Nat.{ℕ}
 use mathlib.Core.Path.{_≡_}
-use mathlib.Core.Bool.{true}
 use mathlib.Core.List.{List}
 use mathlib.Core.Option.{none}
-use Rattle.rules.specs.Rules.{Step, finished, wants, goes, place, recalled, endRound, after, takeByte, next}
+use Rattle.rules.specs.Rules.{finished, wants, goes, place, recalled, endRound, after, takeByte, next}
 use Rattle.tables.specs.Tables.{Tables}
 use Rattle.trie.specs.Answers.{tables}
 use Rattle.scan.specs.declared.Scan.{Scan}
-use Rattle.scan.specs.declared.steps.Found.{Found}
-use Rattle.scan.specs.declared.steps.Found.the-variants.{On, Hit}
-use Rattle.scan.specs.declared.steps.Taken.{Taken}
 use Rattle.scan.specs.declared.steps.Move.{Move}
 use Rattle.scan.specs.declared.steps.Move.the-variants.{Finished, Wants, End, Take}
-use Rattle.scan.specs.State.{configOf, treeOf, slotsOk}
-use Rattle.scan.specs.Calls.{Hit as Heard, noHit, hitOf, hitIn, moved}
-use Rattle.scan.specs.Laws.Within.{Ready, Within}
+use Rattle.scan.specs.State.{configOf, treeOf}
+use Rattle.scan.specs.Laws.Kept.{Goes}
 
--- A state to step from, over tables that pass refusal 9.
-pub record Steady (t : Tables) (s : Scan) : Type 0 where
-  pub ready : Ready t (s .count) (s .image) (s .shortest)
-  pub within : Within t (s .count) (s .image) (configOf s)
-  pub slots : slotsOk s ≡ true
+-- A state to step from: no hit is left.
+pub record Stepping (t : Tables) (s : Scan) : Type 0 where
+  pub goes : Goes t s
+  pub none : s .hit ≡ 0
 
 -- A round ends without a look at the chains.
 pub record Ending (parent label token : List ℕ) (s : Scan) : Type 0 where
   pub first : List ℕ
   pub next : List ℕ
-  pub steady : Steady (tables parent label token first next) s
-
--- The hit of a step.
-abbrev pub foundOf : Heard → Found
-foundOf noHit = On
-foundOf (hitOf e i) = Hit e i
-
--- Rule 3 from a state.
-abbrev pub takenBy : Scan → Step ℕ → Taken
-takenBy s w = record { state = moved s (w .config) (s .due); found = foundOf (hitIn (w .events)) }
+  pub goes : Goes (tables parent label token first next) s
 
 -- A look at the next place without a look at the tokens.
 pub record Looking (parent label first : List ℕ) (s : Scan) : Type 0 where
   pub token : List ℕ
   pub next : List ℕ
-  pub steady : Steady (tables parent label token first next) s
+  pub goes : Goes (tables parent label token first next) s
 
 -- What comes next from a state, as the rules have it.
 abbrev pub Chosen : Tables → Scan → Move → Type 0

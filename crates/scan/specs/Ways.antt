@@ -6,12 +6,16 @@ use lib.ListN.{length, getD}
 use lib.Seq.{sets}
 use Rattle.book.specs.Book.{maxBody}
 use Rattle.tables.specs.Tables.{Tables}
-use Rattle.tables.specs.Walks.{ending, depth, lifted}
+use Rattle.tables.specs.Walks.{ending, depth, lifted, carrier}
 use Rattle.trie.specs.Answers.{tables}
 
 -- as far as endings go
 abbrev pub paths : List ℕ → List ℕ → Tables
 paths parent label = tables parent label [] [] []
+
+-- as far as the nodes that carry a token go
+abbrev pub marks : List ℕ → List ℕ → Tables
+marks parent token = tables parent [] token [] []
 
 -- Parents of nodes below the count are smaller nodes; the root's is itself.
 pub record Rises (parent : List ℕ) (count : ℕ) : Type 0 where
@@ -25,6 +29,13 @@ pub record Climbs (parent : List ℕ) (node : ℕ) : Type 0 where
   pub count : ℕ
   pub rises : Rises parent count
   pub below : node < count
+
+-- A node to climb from, past token numbers.
+pub record Marked (parent token : List ℕ) (node : ℕ) : Type 0 where
+  pub count : ℕ
+  pub rises : Rises parent count
+  pub below : node < count
+  pub tokens : count ≤ length token
 
 -- Nodes below the count with endings to spell, and their token numbers.
 pub record Readable (parent label token : List ℕ) (count : ℕ) : Type 0 where
@@ -54,3 +65,8 @@ pub record Run (parent : List ℕ) (node low end : ℕ) : Type 0 where
   pub high : end ≤ node
   pub deep : node + depth (paths parent []) end ≡ end + depth (paths parent []) node
   pub lift : (k : ℕ) → lifted (paths parent []) (k + (node - end)) node ≡ lifted (paths parent []) k end
+
+-- A climb from `node` that stands at `at`, a node not above it: the nearest node that carries a token is the same from there.
+pub record Nears (parent token : List ℕ) (node at : ℕ) : Type 0 where
+  pub high : at ≤ node
+  pub same : carrier (marks parent token) at ≡ carrier (marks parent token) node

@@ -43,7 +43,7 @@ pub fn judge(
     match first_break(parent, label, token, first, next, scan.count) {
         Tested::Breaks(v) => Judged::Refused(Answer::Broken(v)),
         Tested::Sound => {
-            if !in_range(parent, first, scan) {
+            if !in_range(parent, token, first, scan) {
                 return Judged::Refused(Answer::OutOfRange);
             }
             if !same(scan.due, turn) {

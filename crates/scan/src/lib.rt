@@ -1,5 +1,6 @@
 // The sweep by single bytes: the scan state, starting, and the two calls that step it.
 
+mod hits;
 mod judge;
 mod ranges;
 mod shift;
@@ -18,7 +19,6 @@ use book::Numbered;
 use judge::Judged;
 use judge::judge;
 use ranges::SUPPLIED;
-use steps::Found;
 use steps::settle;
 use steps::take_byte;
 
@@ -31,7 +31,7 @@ pub struct Stretch {
 }
 
 // N, S, the number of nodes, the present round's boundary, node and depth, the remembered stretches, how many bytes were supplied so
-// far, and whether a byte is due.
+// far, whether a byte is due, and of the hits that are still to be answered their end and the node of the next (both 0 for none).
 pub struct Scan {
     pub image: usize,
     pub shortest: usize,
@@ -42,6 +42,8 @@ pub struct Scan {
     pub stretches: [Stretch; 5],
     pub supplied: usize,
     pub due: bool,
+    pub end: usize,
+    pub hit: usize,
 }
 
 // Whether starting went well, or refusal 8 with its value.
@@ -140,6 +142,8 @@ fn fresh(n: usize, shortest: usize, nodes: usize) -> Scan
             node: 0,
         }; 5],
         supplied: 0,
+        end: 0,
+        hit: 0,
     }
 }
 
@@ -219,16 +223,8 @@ impl Scan {
             },
             Judged::Admitted => {
                 let scan = count_byte(self);
-                let taken = take_byte(scan, parent, label, token, first, next, byte);
-                let state = taken.state;
-                let found = taken.found;
-                match found {
-                    Found::On => settle(state, parent, label, token, first, next),
-                    Found::Hit(end, number) => Stepped {
-                        state,
-                        answer: Answer::Hit(end, number),
-                    },
-                }
+                let state = take_byte(scan, parent, label, token, first, next, byte);
+                settle(state, parent, label, token, first, next)
             }
         }
     }

@@ -15,11 +15,11 @@ ghost use mathlib.Core.List.{List, []};
 ghost use lib.Dec.{leb, ltb, eqb};
 ghost use lib.ListN.{length};
 ghost use Rattle.rules.specs.Lists.{anyOf};
-ghost use Rattle.book.specs.Book.{maxImage};
+ghost use Rattle.book.specs.Book.{maxBody, maxImage};
 ghost use Rattle.tables.specs.Walks.{depth};
 ghost use Rattle.trie.specs.Answers.{tables};
-ghost use Rattle.scan.specs.State.{stretchOf, used, farthest, stretchOk, stretchesOk, dueOk, inRange};
-ghost use Rattle.scan.specs.Ways.{paths, Rises, Climbs};
+ghost use Rattle.scan.specs.State.{stretchOf, used, farthest, stretchOk, stretchesOk, dueOk, upTo, endOk, hitOk, leftOk, inRange};
+ghost use Rattle.scan.specs.Ways.{paths, marks, Rises, Climbs};
 ghost use Rattle.scan.specs.Ranges.{Passing};
 ghost use Rattle.scan.specs.Memory.{covers};
 
@@ -131,10 +131,72 @@ fn due_ok(first: &[u16], scan: Scan) -> bool
     scan.depth != scan.boundary && !remembered(scan, scan.boundary - 1 - scan.depth)
 }
 
+// Whether none of the slots in use, which come first, reaches past a place.
+fn up_to(slots: [Stretch; 5], end: usize) -> bool
+    requires size { ⌜ length slots ≡ 5 ⌝ }
+    ensures { λ r. ⌜ r ≡ upTo end (used slots) ⌝ }
+{
+    let mut i = 0;
+    while i < 5 {
+        let s = slots[i];
+        if !in_use(s) {
+            return true;
+        }
+        if end < s.right {
+            return false;
+        }
+        i += 1;
+    }
+    true
+}
+
+// Whether the end of the hits that are left lies in the image and before b, and the round stands at its start.
+fn end_ok(scan: Scan) -> bool
+    requires { ⌜ scan .shortest ≤ maxBody ⌝ }
+    requires { ⌜ scan .image ≤ maxImage ⌝ }
+    ensures { λ r. ⌜ r ≡ endOk scan ⌝ }
+{
+    if scan.end > scan.image
+        || scan.end >= scan.boundary
+        || scan.boundary > scan.end + scan.shortest
+    {
+        return false;
+    }
+    if scan.node != 0 || scan.due {
+        return false;
+    }
+    let slots = scan.stretches;
+    up_to(slots, scan.end)
+}
+
+// Whether the node of the next hit that is left is below the count, carries a token, and is no deeper than its end.
+fn hit_ok(parent: &[u16], token: &[u16], scan: Scan) -> bool
+    requires { ⌜ Rises (now parent) (scan .count) × (scan .count ≤ length (now token)) ⌝ }
+    ensures { λ r. ⌜ r ≡ hitOk (marks (now (parent .entry)) (now (token .entry))) scan ⌝ }
+{
+    let node = scan.hit;
+    if node >= scan.count || token[node] == 0 {
+        return false;
+    }
+    climbed(parent, node) <= scan.end
+}
+
+// Whether the hits that are left are in range; with none the end is 0.
+fn left_ok(parent: &[u16], token: &[u16], scan: Scan) -> bool
+    requires { ⌜ Rises (now parent) (scan .count) × (scan .count ≤ length (now token)) ⌝ }
+    requires { ⌜ (scan .shortest ≤ maxBody) × (scan .image ≤ maxImage) ⌝ }
+    ensures { λ r. ⌜ r ≡ leftOk (marks (now (parent .entry)) (now (token .entry))) scan ⌝ }
+{
+    if scan.hit == 0 {
+        return scan.end == 0;
+    }
+    hit_ok(parent, token, scan) && end_ok(scan)
+}
+
 // Whether the state is in its ranges. The count comes first: tables of no node hold nothing to read.
-pub fn in_range(parent: &[u16], first: &[u16], scan: Scan) -> bool
-    requires { ⌜ Passing (now parent) (now first) (scan .count) ⌝ }
-    ensures { λ r. ⌜ ((label token next : List ℕ) → r ≡ inRange (tables (now (parent .entry)) label token (now (first .entry)) next) scan) ⌝ }
+pub fn in_range(parent: &[u16], token: &[u16], first: &[u16], scan: Scan) -> bool
+    requires { ⌜ Passing (now parent) (now token) (now first) (scan .count) ⌝ }
+    ensures { λ r. ⌜ ((label next : List ℕ) → r ≡ inRange (tables (now (parent .entry)) label (now (token .entry)) (now (first .entry)) next) scan) ⌝ }
 {
     if !between(1, scan.count, NODES) || scan.image > Book::IMAGE {
         return false;
@@ -145,5 +207,8 @@ pub fn in_range(parent: &[u16], first: &[u16], scan: Scan) -> bool
     if !between(scan.depth, scan.boundary, scan.image + PAST) || scan.supplied > SUPPLIED {
         return false;
     }
-    stretches_ok(parent, scan) && due_ok(first, scan)
+    if !stretches_ok(parent, scan) || !due_ok(first, scan) {
+        return false;
+    }
+    left_ok(parent, token, scan)
 }

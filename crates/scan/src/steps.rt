@@ -1,36 +1,25 @@
 // The rules, one step at a time, over tables that are a tree and a state in its ranges.
 
 ghost use mathlib.Core.Path.{_≡_};
-ghost use mathlib.Core.Bool.{false};
 ghost use mathlib.Core.List.{List};
 ghost use Prim.Native.Nat.{ℕ};
 ghost use Rattle.rules.specs.Rules.{endRound, takeByte};
 ghost use Rattle.trie.specs.Answers.{tables};
 ghost use Rattle.scan.specs.State.{configOf, treeOf};
-ghost use Rattle.scan.specs.Calls.{moved, settle, enough};
+ghost use Rattle.scan.specs.Calls.{stepped, settle, enough};
 ghost use Rattle.scan.specs.Shifts.{closingOf};
 ghost use Rattle.scan.specs.Results.{steppedOf};
-ghost use Rattle.scan.specs.Steps.{Steady, Ending, Looking, takenBy, Chosen};
+ghost use Rattle.scan.specs.Steps.{Stepping, Ending, Looking, Chosen};
+ghost use Rattle.scan.specs.Laws.Kept.{Goes};
 use crate::Answer;
 use crate::Scan;
 use crate::Stepped;
+use crate::hits;
 use crate::shift;
 use crate::shift::Closing;
 use crate::stretches;
 use crate::stretches::Recalled;
 use trie::Child;
-
-// Whether a step found a token: where it ends, and its number.
-pub enum Found {
-    On,
-    Hit(usize, usize),
-}
-
-// The state after a byte was taken, and the hit.
-pub struct Taken {
-    pub state: Scan,
-    pub found: Found,
-}
 
 // What comes next: nothing, a place to fetch, the round's end, or a byte that is remembered.
 pub enum Move {
@@ -40,12 +29,12 @@ pub enum Move {
     Take(u8),
 }
 
-// Rules 4 to 6: a round ends.
+// A round ends: its hits are left, and rules 4 to 6.
 pub fn end_round(scan: Scan, parent: &[u16], label: &[u8], token: &[u16], closing: Closing) -> Scan
     requires { ⌜ Ending (now parent) (now label) (now token) scan ⌝ }
     ensures { λ r. ⌜ ((first next : List ℕ) →
-        r ≡ moved scan (endRound (treeOf (tables (now (parent .entry)) (now (label .entry)) (now (token .entry)) first next) scan)
-        (configOf scan) (closingOf closing) .config) (scan .due)) ⌝ }
+        let t = tables (now (parent .entry)) (now (label .entry)) (now (token .entry)) first next in
+        r ≡ stepped t scan (endRound (treeOf t scan) (configOf scan) (closingOf closing))) ⌝ }
 {
     let by = shift::shift(
         parent,
@@ -71,7 +60,7 @@ pub fn end_round(scan: Scan, parent: &[u16], label: &[u8], token: &[u16], closin
     out.node = 0;
     out.depth = 0;
     out.stretches = kept;
-    out
+    hits::owe(out, scan.boundary, hits::carrier(parent, token, scan.node))
 }
 
 // Rule 3: the round goes to a child, or ends at the byte.
@@ -83,32 +72,19 @@ pub fn take_byte(
     first: &[u16],
     next: &[u16],
     byte: u8,
-) -> Taken
-    requires { ⌜ Steady (tables (now parent) (now label) (now token) (now first) (now next)) scan ⌝ }
+) -> Scan
+    requires { ⌜ Stepping (tables (now parent) (now label) (now token) (now first) (now next)) scan ⌝ }
     ensures { λ r.
         let t = tables (now (parent .entry)) (now (label .entry)) (now (token .entry)) (now (first .entry)) (now (next .entry)) in
-        ⌜ r ≡ takenBy scan (takeByte (treeOf t scan) (configOf scan) byte) ⌝ }
+        ⌜ r ≡ stepped t scan (takeByte (treeOf t scan) (configOf scan) byte) ⌝ }
 {
     match trie::chain::child(label, first, next, scan.count, scan.node, byte) {
-        Child::Absent => Taken {
-            state: end_round(scan, parent, label, token, Closing::Byte(byte)),
-            found: Found::On,
-        },
+        Child::Absent => end_round(scan, parent, label, token, Closing::Byte(byte)),
         Child::At(v) => {
-            let number = token[v] as usize;
-            let mut state = scan;
-            state.node = v;
-            state.depth = scan.depth + 1;
-            if number == 0 {
-                return Taken {
-                    state,
-                    found: Found::On,
-                };
-            }
-            Taken {
-                state,
-                found: Found::Hit(scan.boundary, number),
-            }
+            let mut out = scan;
+            out.node = v;
+            out.depth = scan.depth + 1;
+            out
         }
     }
 }
@@ -143,14 +119,16 @@ pub fn settle(
     first: &[u16],
     next: &[u16],
 ) -> Stepped
-    requires { ⌜ Steady (tables (now parent) (now label) (now token) (now first) (now next)) scan ⌝ }
-    requires { ⌜ scan .due ≡ false ⌝ }
+    requires { ⌜ Goes (tables (now parent) (now label) (now token) (now first) (now next)) scan ⌝ }
     ensures { λ r.
         let t = tables (now (parent .entry)) (now (label .entry)) (now (token .entry)) (now (first .entry)) (now (next .entry)) in
-        ⌜ steppedOf r ≡ settle t scan (enough scan) (configOf scan) ⌝ }
+        ⌜ steppedOf r ≡ settle t (enough scan) scan ⌝ }
 {
     let mut at = scan;
     loop {
+        if at.hit != 0 {
+            return hits::tell(at, parent, token);
+        }
         match choose(at, parent, label, first) {
             Move::Finished => {
                 return Stepped {
@@ -169,20 +147,7 @@ pub fn settle(
                 at = end_round(at, parent, label, token, Closing::Nothing);
             }
             Move::Take(x) => {
-                let taken = take_byte(at, parent, label, token, first, next, x);
-                let state = taken.state;
-                let found = taken.found;
-                match found {
-                    Found::On => {
-                        at = state;
-                    }
-                    Found::Hit(end, number) => {
-                        return Stepped {
-                            state,
-                            answer: Answer::Hit(end, number),
-                        };
-                    }
-                }
+                at = take_byte(at, parent, label, token, first, next, x);
             }
         }
     }

@@ -8,9 +8,10 @@ use mathlib.Core.List.{List, [], _∷_, _++_}
 use mathlib.Core.Option.{Option, some, none}
 use lib.Dec.{eqb}
 use lib.ListN.{replicate, set, take}
+use Rattle.rules.specs.Rules.{hit, hitsUp}
 use Rattle.book.specs.Book.{accepted, refused}
 use Rattle.tables.specs.Tables.{Tables, built, build}
-use Rattle.tables.specs.Walks.{childBy}
+use Rattle.tables.specs.Walks.{childBy, carrier, ofTables}
 use Rattle.tables.specs.Broken.{broken, tested}
 
 -- "ab", "b", "cb", "ba": the nodes are "", "b", "ab", "cb", "a", "ba"
@@ -30,6 +31,24 @@ four-built = refl
 -- Children: the root's first and second, one that is not there, and one that the walk does not come to over a single node.
 children : childBy four 6 0 98 ∷ childBy four 6 0 97 ∷ childBy four 6 0 99 ∷ childBy four 1 0 97 ∷ [] ≡ some 1 ∷ some 4 ∷ none ∷ none ∷ []
 children = refl
+
+-- "b" and "xab": "ab" carries no token
+abbrev gapped : Tables
+gapped = record {
+  parent = 0 ∷ 0 ∷ 1 ∷ 2 ∷ [];
+  label = 0 ∷ 98 ∷ 97 ∷ 120 ∷ [];
+  token = 0 ∷ 1 ∷ 0 ∷ 2 ∷ [];
+  first = 1 ∷ 2 ∷ 3 ∷ 0 ∷ [];
+  next = replicate 4 0;
+}
+
+-- The longest token on the way to the root: of "xab" and "b" each itself, of "ab" it is "b", and the root and "a" have none.
+carriers : carrier gapped 3 ∷ carrier gapped 1 ∷ carrier gapped 2 ∷ carrier gapped 0 ∷ carrier four 4 ∷ [] ≡ 3 ∷ 1 ∷ 1 ∷ 0 ∷ 0 ∷ []
+carriers = refl
+
+-- The hits at end 9 of "xab", the longest first, and of "ab".
+hits-climbed : hitsUp (ofTables gapped 4 1) 9 3 3 ++ hitsUp (ofTables gapped 4 1) 9 2 2 ≡ hit 9 2 ∷ hit 9 1 ∷ hit 9 1 ∷ []
+hits-climbed = refl
 
 -- The book of "ba" and "a" asks for four entries and makes three nodes: what follows the last one stays.
 abbrev book : List ℕ

@@ -39,6 +39,15 @@ abbrev pub lifted : Tables → ℕ → ℕ → ℕ
 lifted t zero v = v
 lifted t (suc n) v = lifted t n (getD (t .parent) v 0)
 
+-- the nearest node at v or above it that carries a token, or the root, in at most `fuel` steps
+abbrev pub nearest : Tables → ℕ → ℕ → ℕ
+nearest t zero v = 0
+nearest t (suc fuel) v = elim (getD (t .token) v 0) [ zero ↦ nearest t fuel (getD (t .parent) v 0) | suc i ↦ v ]
+
+-- Rule 3: the node of the longest token on the way from v to the root; the root for none. A parent is a smaller node, so v is fuel enough.
+abbrev pub carrier : Tables → ℕ → ℕ
+carrier t v = nearest t v v
+
 -- The tokens that tables have: the endings of the nodes below `count` that carry a token number.
 abbrev pub words : Tables → ℕ → List (List ℕ)
 words t zero = []

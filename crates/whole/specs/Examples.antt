@@ -46,12 +46,12 @@ abbrev leaves : Verdict ℕ → List ℕ → List ℕ → Swept
 leaves answer ends tokens = record { answer = answer; fetched = 4; tables = three; ends = ends; tokens = tokens }
 
 -- All hits are there, and what follows them stays in both buffers.
-all-found : swept 5 4 ≡ leaves (accepted 3) (1 ∷ 2 ∷ 2 ∷ 8 ∷ 8 ∷ []) (1 ∷ 1 ∷ 2 ∷ 8 ∷ [])
+all-found : swept 5 4 ≡ leaves (accepted 3) (1 ∷ 2 ∷ 2 ∷ 8 ∷ 8 ∷ []) (1 ∷ 2 ∷ 1 ∷ 8 ∷ [])
 unfolding happens trace built
 all-found = refl
 
 -- There is room for exactly the hits there are.
-just-room : swept 3 4 ≡ leaves (accepted 3) (1 ∷ 2 ∷ 2 ∷ []) (1 ∷ 1 ∷ 2 ∷ 8 ∷ [])
+just-room : swept 3 4 ≡ leaves (accepted 3) (1 ∷ 2 ∷ 2 ∷ []) (1 ∷ 2 ∷ 1 ∷ 8 ∷ [])
 unfolding happens trace built
 just-room = refl
 
@@ -61,7 +61,7 @@ unfolding happens trace built
 first-shorter = refl
 
 -- 12 where the second is.
-second-shorter : swept 4 2 ≡ leaves (refused 12 3) (1 ∷ 2 ∷ 8 ∷ 8 ∷ []) (1 ∷ 1 ∷ [])
+second-shorter : swept 4 2 ≡ leaves (refused 12 3) (1 ∷ 2 ∷ 8 ∷ 8 ∷ []) (1 ∷ 2 ∷ [])
 unfolding happens trace built
 second-shorter = refl
 
@@ -69,6 +69,14 @@ second-shorter = refl
 no-room : swept 0 0 ≡ leaves (refused 12 3) [] []
 unfolding happens trace built
 no-room = refl
+
+-- "c", "bc" and "abc" in "abc": the longest comes first, and a buffer of two entries holds the two longest.
+abbrev nested : Swept
+nested = sweepImage (1 ∷ 99 ∷ 2 ∷ 98 ∷ 99 ∷ 3 ∷ 97 ∷ 98 ∷ 99 ∷ 0 ∷ []) (97 ∷ 98 ∷ 99 ∷ []) (nines 7) (eights 2) (eights 4)
+
+longest-first : (nested .answer ≡ refused 12 3) × (nested .ends ≡ 3 ∷ 3 ∷ []) × (nested .tokens ≡ 3 ∷ 2 ∷ 8 ∷ 8 ∷ [])
+unfolding happens trace
+longest-first = (refl, refl, refl)
 
 -- What a refusal before building leaves: all that was lent.
 abbrev untouched : Verdict ℕ → ℕ → Swept

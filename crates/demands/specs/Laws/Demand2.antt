@@ -19,7 +19,7 @@ use Rattle.scan.specs.Start.{started, start}
 use Rattle.scan.specs.Calls.{carryOn}
 use Rattle.scan.specs.Answers.{answers}
 use Rattle.whole.specs.Image.{room, counted, noted, sweepImage}
-use Rattle.scan.specs.Laws.Walk.{fresh-sat}
+use Rattle.scan.specs.Laws.Walk.{fresh-sat, fresh-left}
 use Rattle.scan.specs.Laws.Settle.{Settled, carry-settles}
 use Rattle.tables.specs.Laws.Made.{written-lent, build-made}
 use Rattle.demands.specs.Demand2.{swept, Demand2, Demand2For}
@@ -37,11 +37,11 @@ module _ (book : List ℕ) (tokens : List (List ℕ)) (read : readBook book ≡ 
       let S = shortestOf tokens in
       let g = given book tokens read t lent n h in
       let fuel = suc n * (longestOf tokens + 2) in
-      carry-settles g (bytesOf image) (fresh (ofTables t (length (nodes tokens)) S) S) 0 (fresh-sat g) _ (
+      carry-settles g (bytesOf image) (fresh (ofTables t (length (nodes tokens)) S) S) 0 0 0 (fresh-sat g) _ (
         fuel,
         λ _. steps-enough n (longestOf tokens) S fuel (g .setting .positive) (omega arith),
         same-answers book tokens read t lent n h (bytesOf image),
-      )
+      ) (fresh-left g)
 
   -- The sweep of the whole image, by what the rules say.
   module _ (tables : Tables) (fits : tooShort tables tokens ≡ false) (h : length image ≤ maxImage) (ends numbers : List ℕ) where

@@ -16,7 +16,7 @@ use Rattle.tables.specs.Laws.Made.{written-lent, build-made}
 use Rattle.scan.specs.declared.Scan.{Scan}
 use Rattle.scan.specs.Start.{started, start}
 use Rattle.scan.specs.Answers.{answers}
-use Rattle.scan.specs.Laws.Walk.{fresh-sat}
+use Rattle.scan.specs.Laws.Walk.{fresh-sat, fresh-left}
 use Rattle.demands.specs.Demand3.{Call, ran, expected, Demand3, Demand3For}
 use Rattle.demands.specs.Laws.Ready.{start-fresh, given, same-answers}
 use Rattle.demands.specs.Laws.Lists.{calls-right}
@@ -32,9 +32,9 @@ module _ (book : List ℕ) (tokens : List (List ℕ)) (read : readBook book ≡ 
       let all = ran t (started n S count) calls .taken in
       let fuel = suc n * (D + 2) in
       let c = fresh (ofTables t count S) S in
-      let i = calls-right g all calls c false 0
+      let i = calls-right g all calls c false 0 0 0
       (answers (trace (ofTables t count S) n (λ k p. getD all k 0) fuel 0 c))
-      (fresh-sat g)
+      (fresh-sat g) (fresh-left g)
       (fuel, λ _. steps-enough n D S fuel (g .setting .positive) (omega arith), refl) refl in
       record {
         tokens = tokens;

@@ -18,8 +18,7 @@ use Rattle.tables.specs.Laws.Represents.{built-represents}
 use Rattle.scan.specs.declared.Scan.{Scan}
 use Rattle.scan.specs.Start.{started, start, tooLong}
 use Rattle.scan.specs.Answers.{answers}
-use Rattle.scan.specs.Laws.Mild.{events-answers}
-use Rattle.scan.specs.Laws.Walk.{Given, alike, fresh-sat}
+use Rattle.scan.specs.Laws.Walk.{Given, alike, fresh-sat, events-answers}
 
 -- Starting takes an image within its limit, and hands back the fresh state.
 pub start-fresh : (n S count : ℕ) (s : Scan) → start n S count ≡ accepted s → (n ≤ maxImage) × (s ≡ started n S count)

@@ -13,6 +13,7 @@ use Rattle.tables.specs.Tables.{Tables}
 use Rattle.tables.specs.Walks.{ofTables}
 use Rattle.scan.specs.Calls.{Answer, fetch, found, over, refused, Stepped, carryOn, supply}
 use Rattle.scan.specs.Answers.{answers, placesIn, hitsIn}
+use Rattle.scan.specs.Laws.Within.{Left}
 use Rattle.scan.specs.Laws.Walk.{Given, Sat}
 use Rattle.scan.specs.Laws.Range.{stateAt}
 use Rattle.scan.specs.Laws.Settle.{Todo, Settled, carry-settles, supply-settles}
@@ -68,30 +69,33 @@ module _ {tokens : List (List ℕ)} {S D : ℕ} {t : Tables} {count n : ℕ} (gi
       → swept t image calls r ≡ take calls todo
 
   -- After a place to fetch, its byte is supplied.
-  after-fetch : (calls k p : ℕ) (todo : List Answer) → Ends todo → Goes calls → (c : Config ℕ) (due : Bool) → true ≡ due
-      → Sat given c k → Todo given ask k due c todo → next (ofTables t count S) n c ≡ wants p
-      → swept t image calls (supply t (stateAt n S count c due k) (getD image p 0)) ≡ take calls todo
-  after-fetch calls k p todo h ih c true e s f w =
+  after-fetch : (calls k p : ℕ) (todo : List Answer) → Ends todo → Goes calls → (c : Config ℕ) (due : Bool) (end v : ℕ) → true ≡ due
+      → Sat given c k → Left t count n S c due end v → Todo given ask k due c end v todo → next (ofTables t count S) n c ≡ wants p
+      → swept t image calls (supply t (stateAt n S count c due k end v) (getD image p 0)) ≡ take calls todo
+  after-fetch calls k p todo h ih c true end v e s l f w =
       let same : f .0 ≡ p = cc (f .2) in
-      ih (k + 1) todo h _ (subst (λ at. Settled given ask (k + 1) todo (supply t (stateAt n S count c true k) (getD image at 0))) same
-      (supply-settles given ask c k s todo f))
-  after-fetch calls k p todo h ih c false e s f w = absurd (let z : _≡_ {A = ℕ} 0 1 = cc in omega arith)
+      ih (k + 1) todo h _ (subst (λ at. Settled given ask (k + 1) todo (supply t (stateAt n S count c true k end v) (getD image at 0))) same
+      (supply-settles given ask c k end v s todo f l))
+  after-fetch calls k p todo h ih c false end v e s l f w = absurd (let z : _≡_ {A = ℕ} 0 1 = cc in omega arith)
 
   -- After a hit, the sweep is carried on.
-  after-hit : (calls k : ℕ) (todo : List Answer) → Ends todo → Goes calls → (c : Config ℕ) (due : Bool) → false ≡ due
-      → Sat given c k → Todo given ask k due c todo → swept t image calls (carryOn t (stateAt n S count c due k)) ≡ take calls todo
-  after-hit calls k todo h ih c true e s f = absurd (let z : _≡_ {A = ℕ} 0 1 = cc in omega arith)
-  after-hit calls k todo h ih c false e s f = ih k todo h _ (carry-settles given ask c k s todo f)
+  after-hit : (calls k : ℕ) (todo : List Answer) → Ends todo → Goes calls → (c : Config ℕ) (due : Bool) (end v : ℕ) → false ≡ due
+      → Sat given c k → Left t count n S c due end v → Todo given ask k due c end v todo
+      → swept t image calls (carryOn t (stateAt n S count c due k end v)) ≡ take calls todo
+  after-hit calls k todo h ih c true end v e s l f = absurd (let z : _≡_ {A = ℕ} 0 1 = cc in omega arith)
+  after-hit calls k todo h ih c false end v e s l f = ih k todo h _ (carry-settles given ask c k end v s todo f l)
 
   pub swept-right : (calls : ℕ) → Goes calls
   swept-right zero k todo h r z = refl
   swept-right (suc calls) k [] h r z = absurd h
   swept-right (suc calls) k (fetch p ∷ todo) h r z =
       ap (swept t image (suc calls)) (z .is)
-      ∙ ap (λ l. fetch p ∷ l) (after-fetch calls k p todo h (swept-right calls) (z .config) (z .due) (z .turn) (z .sat) (z .rest) (z .wanted p refl))
+      ∙ ap (λ l. fetch p ∷ l)
+      (after-fetch calls k p todo h (swept-right calls) (z .config) (z .due) (z .end) (z .hit) (z .turn) (z .sat) (z .owes) (z .rest) (z .wanted p refl))
   swept-right (suc calls) k (found e i ∷ todo) h r z =
       ap (swept t image (suc calls)) (z .is)
-      ∙ ap (λ l. found e i ∷ l) (after-hit calls k todo h (swept-right calls) (z .config) (z .due) (z .turn) (z .sat) (z .rest))
+      ∙ ap (λ l. found e i ∷ l)
+      (after-hit calls k todo h (swept-right calls) (z .config) (z .due) (z .end) (z .hit) (z .turn) (z .sat) (z .owes) (z .rest))
   swept-right (suc calls) k (over ∷ todo) h r z =
       ap (swept t image (suc calls)) (z .is) ∙ ap (λ l. over ∷ l) (sym (ap (take calls) h ∙ take-nil calls))
   swept-right (suc calls) k (refused x v ∷ todo) h r z = absurd h

@@ -2,8 +2,8 @@
 use Prim.Native.Nat.{ℕ, suc, _+_, _-_, _*_, _^_, _≤_, _<_}
 use native.Mathlib.Omega.{arith}
 use mathlib.Core.Path.{_≡_, refl, ap, sym, _∙_}
-use mathlib.Core.List.{List, []}
-use mathlib.Core.Bool.{Bool, true, false, _&&_}
+use mathlib.Core.List.{List, [], _∷_}
+use mathlib.Core.Bool.{true, _&&_}
 use mathlib.Core.Option.{Option, some, none}
 use borrow.Author.Tests.{eqb-true, ltb-true}
 use lib.Dec.{eqb, ltb}
@@ -48,19 +48,23 @@ by-skip-set {cache = cache} {by = by} x h z c l b = record {
 }
 
 -- And by both bytes.
-pub by-pair-set : {book image cache : List ℕ} {x depth by : ℕ} {stop : Stop} {marked : Bool} (y : ℕ) → y < 256 → x < 256
-    → depth ≡ 1 → marked ≡ false → closingOf stop ≡ some y → Sees book image x depth stop marked by → ByPair book image cache
+pub by-pair-set : {book image cache : List ℕ} {x depth by : ℕ} {stop : Stop} {met : ℕ} (y : ℕ) → y < 256 → x < 256
+    → depth ≡ 1 → met ≡ 0 → closingOf stop ≡ some y → Sees book image x depth stop met by → ByPair book image cache
     → ByPair book image (set cache (256 * y + x) by)
-by-pair-set {book} {image} {cache} {x} {by = by} y hy hx one unmarked c l b = record {
+by-pair-set {book} {image} {cache} {x} {by = by} y hy hx one bare c l b = record {
   size = length-set cache (256 * y + x) by ∙ b .size;
   right = λ v u hv hu.
       split (256 * v + u) (256 * y + x)
       (λ e _.
       let p : v ≡ y = omega arith in
       let q : u ≡ x = omega arith in
-      rw (p, q, getD-set-same cache (256 * y + x) by 0 (omega (arith, b .size))) (l .seen y one unmarked c))
+      rw (p, q, getD-set-same cache (256 * y + x) by 0 (omega (arith, b .size))) (l .seen y one bare c))
       (λ e. rw (getD-set-other cache (256 * y + x) (256 * v + u) by 0 e) (b .right v u hv hu));
 }
+
+none-met : (m : List ℕ) → length m ≡ 0 → m ≡ []
+none-met [] e = refl
+none-met (i ∷ m) e = absurd (omega arith)
 
 -- The round from a standing ended where the rules say.
 pub record Arrives (book image : List ℕ) (shortest : ℕ) (at : Standing) (arrival : Arrival) : Type 0 where
@@ -71,7 +75,7 @@ pub record Arrives (book image : List ℕ) (shortest : ℕ) (at : Standing) (arr
   pub named : nameOf book (arrival .node) ≡ endAt book image (at .boundary) .node
   pub deep : arrival .depth ≡ endAt book image (at .boundary) .depth
   pub closing : closingOf (arrival .stop) ≡ endAt book image (at .boundary) .closing
-  pub marked : arrival .marked ≡ endAt book image (at .boundary) .marked
+  pub many : arrival .met ≡ length (endAt book image (at .boundary) .tokens)
 
 module _ {book image : List ℕ} {S : ℕ} {at : Standing} {arrival : Arrival} (a : Arrives book image S at arrival) where
   abbrev b : ℕ
@@ -116,12 +120,12 @@ module _ {book image : List ℕ} {S : ℕ} {at : Standing} {arrival : Arrival} (
       right = λ x z c. let k : b - (b - d) ≡ 0 = omega arith in rw (k, c) at e;
     }
 
-    pub sees : (x : ℕ) → x ≡ getD image (b - 1) 0 → Sees book image x d (arrival .stop) (arrival .marked) by
+    pub sees : (x : ℕ) → x ≡ getD image (b - 1) 0 → Sees book image x d (arrival .stop) (arrival .met) by
     sees x is = record {
-      seen = λ y one unmarked c.
+      seen = λ y one bare c.
           let shut = sym (a .closing) ∙ c in
           let deep = sym (a .deep) ∙ one in
-          let k = down-closes (ofTokens (tokensOf book) (shortestOf (tokensOf book))) image b (suc b) [] 0 false y shut in
+          let k = down-closes (ofTokens (tokensOf book) (shortestOf (tokensOf book))) image b (suc b) [] 0 [] y shut in
           let p : b - 1 - r .depth ≡ b - 2 = omega arith in
           record {
             b = b;
@@ -130,7 +134,7 @@ module _ {book image : List ℕ} {S : ℕ} {at : Standing} {arrival : Arrival} (
             second = rw p at (k .0);
             deep = deep;
             closing = shut;
-            unmet = sym (a .marked) ∙ unmarked;
+            unmet = none-met (endAt book image b .tokens) (sym (a .many) ∙ bare);
             shift = by-is;
           };
     }

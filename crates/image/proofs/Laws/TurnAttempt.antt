@@ -1,35 +1,24 @@
 -- A round as a whole: what its calls ask and what their answers amount to.
-use Prim.Native.Nat.{ℕ, suc, _^_, _≤_, _<_}
+use Prim.Native.Nat.{ℕ, _^_, _≤_, _<_}
 use native.Mathlib.Omega.{arith}
 use mathlib.Core.Path.{_≡_, refl, ap, sym, subst, _∙_}
-use mathlib.Core.Bool.{false}
-use mathlib.Core.List.{List, _++_}
+use mathlib.Core.List.{List, _++_, map}
 use mathlib.Core.Option.{Option, some, none}
 use lib.ListN.{length}
 use Rattle.rules.specs.Rules.{Tree}
 use Rattle.rules.specs.Tokens.{shortestOf}
+use Rattle.book.specs.Book.{maxBody}
 use Rattle.book.specs.Laws.Accepted.{accepted-fit, accepted-some}
 use Rattle.tables.specs.Tables.{Tables}
 use Rattle.trie.specs.Answers.{tables}
 use Rattle.image.specs.declared.walk.Arrival.{Arrival}
-use Rattle.image.specs.Rounds.{reached, met}
+use Rattle.image.specs.Rounds.{reached}
 use Rattle.image.specs.Rule5.{tokensOf, closingOf}
-use Rattle.image.specs.Walk.{treeIn, Walkable, stopOf, arrivalOf, Noted}
-use Rattle.image.specs.Sweeping.{Given, Standing, Stands, Known, Begun}
-use Rattle.image.specs.Laws.Round.{unmet-none}
-use Rattle.image.specs.Laws.Tables.{walkable, reached-same, met-same}
-use Rattle.image.specs.Laws.RoundByRound.{hits-small, turns}
+use Rattle.image.specs.Walk.{treeIn, Walkable, newest, stopOf, arrivalOf, Noted}
+use Rattle.image.specs.Sweeping.{Given, Standing, Stands, Known, endAt, metAt, Begun}
+use Rattle.image.specs.Laws.Tables.{walkable, Same, reached-same}
+use Rattle.image.specs.Laws.RoundByRound.{hits-small, depths, turns}
 use Rattle.image.proofs.Laws.Turn.{Arrives, Turned}
-
--- A round that met no token puts nothing into the buffers.
-pub meets-none : (tree : Tree ℕ) (image : List ℕ) (b hits : ℕ) (ends tokens : List ℕ)
-    → (arrival : Arrival) → arrival ≡ arrivalOf (reached tree image b) → arrival .marked ≡ false
-    → Noted ends tokens hits (met tree image b) ends tokens hits
-meets-none tree image b hits ends tokens arrival e h =
-    let unmarked : reached tree image b .marked ≡ false = sym (ap (λ (r : Arrival). r .marked) e) ∙ h in
-    subst (λ found. Noted ends tokens hits found ends tokens hits)
-    (sym (unmet-none tree image b (suc b) (tree .root) 0 false unmarked .1))
-    (record { number = omega arith; ends-hold = refl; tokens-hold = refl })
 
 -- From one standing to another, with more hits put into the buffers.
 pub record Goes (book image : List ℕ) (at after : Standing) (ends ends′ tokens tokens′ : List ℕ) : Type 0 where
@@ -69,34 +58,49 @@ module _ {book image label token first next : List ℕ} {count shortest : ℕ} (
     abbrev here : Tree ℕ
     here = treeIn label token first next count
 
-    pub round-place : (0 < b) × (b ≤ length image) × (b ≤ 16777216) × (at .hits ≤ 2 ^ 36)
-    round-place =
-        (omega (arith, k .stands .positive), h, omega (arith, g .within), hits-small book image at (k .found) (k .stands) (g .within))
+    pub round-place : (0 < b) × (b ≤ length image)
+    round-place = (omega (arith, k .stands .positive), h)
 
-    -- Where it ends is where a round of the tokens ends.
-    pub round-arrives : (arrival : Arrival) → arrival ≡ arrivalOf (reached here image b) → Arrives book image shortest at arrival
-    round-arrives arrival e =
+    pub round-numbers : (b ≤ 16777216) × (at .hits ≤ 2 ^ 36)
+    round-numbers = (omega (arith, g .within), hits-small book image at (k .found) (k .stands) (g .within))
+
+    -- There is room for the tokens on its way.
+    pub round-room : reached here image b .depth ≤ maxBody
+    round-room =
         let s = reached-same (tokensOf book) S t count (g .stands) image b in
-        subst (Arrives book image shortest at) (sym e)
-        (record {
-          read = g .read;
-          known = k;
-          place = h;
-          below = omega (arith, s .below, g .nodes);
-          named = g .stands .named (reached here image b .node) (s .below) ∙ s .node;
-          deep = s .depth;
-          closing = closing-stop (reached here image b .closing) ∙ s .closing;
-          marked = s .marked;
-        })
+        omega (arith, s .depth, depths book image at (k .found) (k .stands) h .1)
+
+    -- Where it ends is where a round of the tokens ends,
+    module _ (arrival : Arrival) (e : arrival ≡ arrivalOf (reached here image b)) where
+      same : Same (tokensOf book) S t count (g .stands) image b (reached here image b) (endAt book image b)
+      same = reached-same (tokensOf book) S t count (g .stands) image b
+
+      pub round-arrives : Arrives book image shortest at arrival
+      round-arrives =
+          subst (Arrives book image shortest at) (sym e)
+          (record {
+            read = g .read;
+            known = k;
+            place = h;
+            below = omega (arith, same .below, g .nodes);
+            named = g .stands .named (reached here image b .node) (same .below) ∙ same .node;
+            deep = same .depth;
+            closing = closing-stop (reached here image b .closing) ∙ same .closing;
+            many = ap length (same .tokens-same);
+          })
+
+      -- and the tokens kept on its way are its hits.
+      pub round-met : (kept : List ℕ) {ends ends′ tokens tokens′ : List ℕ} {hits n : ℕ} → newest kept (arrival .met) ≡ reached here image b .tokens
+          → Noted ends tokens hits (map (λ i. (b, i)) (newest kept (arrival .met))) ends′ tokens′ n
+          → Noted ends tokens hits (metAt book image b) ends′ tokens′ n
+      round-met kept {ends} {ends′} {tokens} {tokens′} {hits} {n} q =
+          subst (λ m. Noted ends tokens hits (map (λ i. (b, i)) m) ends′ tokens′ n) (q ∙ same .tokens-same)
 
     -- And it goes on from there with what it met.
     pub round-goes : {after : Standing} → Turned book image at after (after .hits) → {ends ends′ tokens tokens′ : List ℕ}
-        → Noted ends tokens (at .hits) (met here image b) ends′ tokens′ (after .hits) → Goes book image at after ends ends′ tokens tokens′
-    round-goes {after} w n =
-        let same = met-same (tokensOf book) S t count (g .stands) image b in
-        record {
-          more = met here image b;
-          stands = λ found s.
-              rw same (turns book image at found s h after (w .boundary) (w .spans) (w .few) (w .fetched) (w .counted ∙ rw same at (n .number)));
-          noted = n;
-        }
+        → Noted ends tokens (at .hits) (metAt book image b) ends′ tokens′ (after .hits) → Goes book image at after ends ends′ tokens tokens′
+    round-goes {after} w n = record {
+      more = metAt book image b;
+      stands = λ found s. turns book image at found s h after (w .boundary) (w .spans) (w .few) (w .fetched) (w .counted ∙ n .number);
+      noted = n;
+    }

@@ -1,39 +1,82 @@
 -- The loop that goes down from a boundary: the rest of the way from here is the whole way.
-use Prim.Native.Nat.{ℕ, suc, _+_, _-_, _≤_, _<_}
+use Prim.Native.Nat.{ℕ, zero, suc, _+_, _-_, _≤_, _<_}
 use native.Mathlib.Omega.{arith}
-use mathlib.Core.Path.{_≡_, ap, sym, _∙_}
-use mathlib.Core.Bool.{Bool, true, false, _||_, not}
-use mathlib.Core.List.{List, []}
+use native.Mathlib.Numerals.{add-one}
+use mathlib.Core.Path.{_≡_, refl, ap, sym, subst, _∙_}
+use mathlib.Core.Bool.{true, false, _||_}
+use mathlib.Core.List.{List, [], _∷_}
+use mathlib.Core.Option.{Option, some, none}
 use borrow.Author.Tests.{ne-eqb}
 use lib.Dec.{eqb}
-use lib.ListN.{getD}
+use lib.ListN.{length, getD, set}
+use lib.Seq.{getD-set-same, getD-set-other}
 use Rattle.rules.specs.Rules.{Tree}
 use Rattle.tables.specs.Walks.{childBy}
 use Rattle.trie.specs.Answers.{tables, childOf}
 use Rattle.trie.specs.declared.Child.{Child}
 use Rattle.trie.specs.declared.Child.the-variants.{At, Absent}
 use Rattle.image.specs.declared.walk.Stop.the-variants.{Byte, Nothing}
-use Rattle.image.specs.Rounds.{down, reached}
-use Rattle.image.specs.Walk.{treeIn, Walkable, Kids, arrivalOf}
+use Rattle.image.specs.declared.walk.Arrival.{Arrival}
+use Rattle.image.specs.Rounds.{meeting, down, reached}
+use Rattle.image.specs.Walk.{treeIn, Walkable, newest, Kids, stopOf, arrivalOf}
+use Rattle.image.specs.Laws.Roots.{down-deeper}
 use Rattle.image.proofs.Laws.WalkChildren.{child-in, child-below, root-none, root-some}
-use Rattle.image.proofs.Laws.Walk.{down-stop, down-shut, down-on}
+use Rattle.image.proofs.Laws.Walk.{ended, down-stop, down-shut, down-on}
 
-pub record Descending (label token first next image : List ℕ) (count b node depth : ℕ) (marked : Bool) : Type 0 where
+-- The numbers that are kept.
+pub newest-length : (l : List ℕ) (n : ℕ) → length (newest l n) ≡ n
+newest-length l zero = refl
+newest-length l (suc n) = cc (newest-length l n)
+
+pub newest-set : (l : List ℕ) (k x n : ℕ) → n ≤ k → newest (set l k x) n ≡ newest l n
+newest-set l k x zero h = refl
+newest-set l k x (suc n) h =
+    ap (λ y. y ∷ newest (set l k x) n) (getD-set-other l k n x 0 (λ e. omega arith)) ∙ ap (λ m. getD l n 0 ∷ m) (newest-set l k x n (omega arith))
+
+-- A number more is kept, or none.
+pub keep-none : (l : List ℕ) (n i : ℕ) → i ≡ 0 → (n ≡ length (meeting (newest l n) i)) × (newest l n ≡ meeting (newest l n) i)
+keep-none l n i e = rw e (sym (newest-length l n), refl)
+
+pub keep-some : (l : List ℕ) (n i : ℕ) → (i ≡ 0 → ⊥) → n < length l
+    → (n + 1 ≡ length (meeting (newest l n) i)) × (newest (set l n i) (n + 1) ≡ meeting (newest l n) i)
+keep-some l n zero h k = absurd (h refl)
+keep-some l n (suc i) h k = (
+  omega (arith, newest-length l n),
+  rw add-one (ap (λ y. y ∷ newest (set l n (suc i)) n) (getD-set-same l n (suc i) 0 k) ∙ ap (λ m. suc i ∷ m) (newest-set l n (suc i) n (omega arith))),
+)
+
+pub meeting-few : (m : List ℕ) (i : ℕ) → length (meeting m i) ≤ length m + 1
+meeting-few m zero = omega arith
+meeting-few m (suc i) = omega arith
+
+pub record Descending (label token first next image kept : List ℕ) (count b node depth met : ℕ) : Type 0 where
   pub held : node < count
   pub upto : depth ≤ b
-  pub rest : down (treeIn label token first next count) image b (suc (b - depth)) node depth marked ≡ reached (treeIn label token first next count) image b
-
--- a token was met before, or is now
-module _ (m n : Bool) where
-  pub marked-still : m ≡ true → m ≡ (m || n)
-  marked-still h = cc
-
-  pub marked-now : m ≡ false → n ≡ (m || n)
-  marked-now h = cc
+  pub few : met ≤ depth
+  pub deep : depth ≤ reached (treeIn label token first next count) image b .depth
+  pub rest : down (treeIn label token first next count) image b (suc (b - depth)) node depth (newest kept met)
+      ≡ reached (treeIn label token first next count) image b
 
 module _ {label token first next : List ℕ} {count : ℕ} (t : Walkable label token first next count) (image : List ℕ) (b : ℕ) where
   abbrev tree : Tree ℕ
   tree = treeIn label token first next count
+
+  -- To arrive is to answer where the way ends and to have kept the tokens on it.
+  abbrev pub Arrived : List ℕ → Arrival → Type 0
+  Arrived kept r = (r ≡ arrivalOf (reached tree image b)) × ((newest kept (r .met) ≡ reached tree image b .tokens) × (r .met ≤ r .depth))
+
+  -- a way that goes on from here
+  begins : (fuel w d m : ℕ) (kept l : List ℕ) → w < count → d ≤ b → m ≤ d → fuel ≡ suc (b - d) → newest kept m ≡ l
+      → down tree image b fuel w d l ≡ reached tree image b → Descending label token first next image kept count b w d m
+  begins fuel w d m kept l h u f z q e =
+      let rest : down tree image b (suc (b - d)) w d (newest kept m) ≡ reached tree image b = rw (q, ← z) e in
+      record {
+        held = h;
+        upto = u;
+        few = f;
+        deep = subst (λ r. d ≤ r .depth) rest (down-deeper tree image b (suc (b - d)) w d (newest kept m));
+        rest = rest;
+      }
 
   -- The first step: the root's children are at hand.
   module _ (some-byte : 0 < b) (x w : ℕ) (is : x ≡ getD image (b - 1) 0) (byte : x < 256)
@@ -44,37 +87,63 @@ module _ {label token first next : List ℕ} {count : ℕ} (t : Walkable label t
     starts : (tree .leaf 0 || eqb 0 b) ≡ false
     starts = cc (t .rooted, ne-eqb 0 b (λ e. omega arith))
 
-    pub descend-none : w ≡ 0 → record { node = 0; depth = 0; stop = Byte x; marked = false } ≡ arrivalOf (reached tree image b)
-    descend-none e = sym (ap arrivalOf (down-shut tree image b b 0 0 x starts place (root-none label token first next count x kids k byte (sym to ∙ e)) false))
+    pub descend-none : w ≡ 0 → (kept : List ℕ) → Arrived kept (record { node = 0; depth = 0; stop = Byte x; met = 0 })
+    descend-none e kept =
+        let is : down tree image b (suc b) 0 0 [] ≡ ended 0 0 (some x) [] =
+        down-shut tree image b b 0 0 [] x starts place (root-none label token first next count x kids k byte (sym to ∙ e)) in
+        (sym (ap arrivalOf is), (sym (ap (λ r. r .tokens) is), omega arith))
 
-    pub descend-begins : (w ≡ 0 → ⊥) → (m : Bool) → m ≡ not (eqb (getD token w 0) 0) → Descending label token first next image count b w 1 m
-    descend-begins h m e =
-        let c = root-some label token first next count x kids k byte w to h in
-        let f : suc (b - 1) ≡ b = omega arith in
-        record {
-          held = t .below 0 x w (t .some-node) c;
-          upto = some-byte;
-          rest = rw (f, e) (sym (down-on tree image b b 0 0 x starts place w c false));
-        }
+    child-of : (w ≡ 0 → ⊥) → tree .child 0 x ≡ some w
+    child-of h = root-some label token first next count x kids k byte w to h
+
+    pub child-held : (w ≡ 0 → ⊥) → w < count
+    child-held h = t .below 0 x w (t .some-node) (child-of h)
+
+    rooted-on : (w ≡ 0 → ⊥) → down tree image b b w 1 (meeting [] (getD token w 0)) ≡ reached tree image b
+    rooted-on h = sym (down-on tree image b b 0 0 [] x starts place w (child-of h))
+
+    -- it is at least one deep
+    pub some-depth : (w ≡ 0 → ⊥) → 1 ≤ reached tree image b .depth
+    some-depth h = subst (λ r. 1 ≤ r .depth) (rooted-on h) (down-deeper tree image b b w 1 (meeting [] (getD token w 0)))
+
+    pub descend-begins : (w ≡ 0 → ⊥) → (kept : List ℕ) (m : ℕ) → m ≡ length (meeting [] (getD token w 0)) → newest kept m ≡ meeting [] (getD token w 0)
+        → Descending label token first next image kept count b w 1 m
+    descend-begins h kept m e q =
+        begins b w 1 m kept _ (child-held h) some-byte (omega (arith, e, meeting-few [] (getD token w 0))) (omega arith) q (rooted-on h)
 
   -- A turn: the node has children, and bytes are left.
-  module _ {node depth : ℕ} {m : Bool} (l : Descending label token first next image count b node depth m) where
-    pub descend-done : (tree .leaf node || eqb depth b) ≡ true
-        → record { node = node; depth = depth; stop = Nothing; marked = m } ≡ arrivalOf (reached tree image b)
-    descend-done h = ap arrivalOf (sym (down-stop tree image b (b - depth) node depth m h) ∙ l .rest)
+  module _ {kept : List ℕ} {node depth m : ℕ} (l : Descending label token first next image kept count b node depth m) where
+    arrives : (s : Option ℕ) → down tree image b (suc (b - depth)) node depth (newest kept m) ≡ ended node depth s (newest kept m)
+        → Arrived kept (record { node = node; depth = depth; stop = stopOf s; met = m })
+    arrives s e =
+        let is = sym e ∙ l .rest in (
+          ap (λ n. record { node = node; depth = depth; stop = stopOf s; met = n }) (sym (newest-length kept m)) ∙ ap arrivalOf is,
+          (ap (λ r. r .tokens) is, l .few),
+        )
+
+    pub descend-done : (tree .leaf node || eqb depth b) ≡ true → Arrived kept (record { node = node; depth = depth; stop = Nothing; met = m })
+    descend-done h = arrives none (down-stop tree image b (b - depth) node depth (newest kept m) h)
 
     module _ (on : (tree .leaf node || eqb depth b) ≡ false) (x : ℕ) (is : x ≡ getD image (b - 1 - depth) 0)
         (k : Child) (found : childOf k ≡ childBy (tables [] label [] first next) count node x) where
-      pub descend-shut : k ≡ Absent → record { node = node; depth = depth; stop = Byte x; marked = m } ≡ arrivalOf (reached tree image b)
+      pub descend-shut : k ≡ Absent → Arrived kept (record { node = node; depth = depth; stop = Byte x; met = m })
       descend-shut e =
-          ap arrivalOf (sym (down-shut tree image b (b - depth) node depth x on is (child-in label token first next count node x k Absent found e) m) ∙ l .rest)
+          arrives (some x) (down-shut tree image b (b - depth) node depth (newest kept m) x on is (child-in label token first next count node x k Absent found e))
 
-      pub descend-again : (v : ℕ) → k ≡ At v → (depth ≡ b → ⊥) → (n : Bool) → n ≡ (m || not (eqb (getD token v 0) 0))
-          → Descending label token first next image count b v (depth + 1) n
-      descend-again v e h n q =
-          let f : suc (b - (depth + 1)) ≡ b - depth = omega (arith, l .upto) in
-          record {
-            held = child-below label token first next count t node x v (l .held) k found e;
-            upto = omega (arith, l .upto);
-            rest = rw (f, q) (sym (down-on tree image b (b - depth) node depth x on is v (child-in label token first next count node x k (At v) found e) m) ∙ l .rest);
-          }
+      module _ (v : ℕ) (e : k ≡ At v) (h : depth ≡ b → ⊥) where
+        goes-on : down tree image b (b - depth) v (depth + 1) (meeting (newest kept m) (getD token v 0)) ≡ reached tree image b
+        goes-on = sym (down-on tree image b (b - depth) node depth (newest kept m) x on is v (child-in label token first next count node x k (At v) found e)) ∙ l .rest
+
+        -- there is room for one more
+        pub more-depth : depth < reached tree image b .depth
+        more-depth = omega (
+          arith,
+          subst (λ r. depth + 1 ≤ r .depth) goes-on (down-deeper tree image b (b - depth) v (depth + 1) (meeting (newest kept m) (getD token v 0))),
+        )
+
+        pub descend-again : (kept′ : List ℕ) (m′ : ℕ) → m′ ≡ length (meeting (newest kept m) (getD token v 0))
+            → newest kept′ m′ ≡ meeting (newest kept m) (getD token v 0) → Descending label token first next image kept′ count b v (depth + 1) m′
+        descend-again kept′ m′ q r =
+            begins (b - depth) v (depth + 1) m′ kept′ _ (child-below label token first next count t node x v (l .held) k found e)
+            (omega (arith, l .upto)) (omega (arith, q, meeting-few (newest kept m) (getD token v 0), newest-length kept m, l .few))
+            (omega (arith, l .upto)) r goes-on

@@ -2,9 +2,9 @@
 use Prim.Native.Nat.{ℕ, zero, suc, _+_, _-_, _≤_, _<_}
 use native.Mathlib.Omega.{arith}
 use mathlib.Core.Path.{_≡_, refl, ap, _∙_}
-use mathlib.Core.Bool.{Bool, true, false, _&&_, _||_, not}
+use mathlib.Core.Bool.{true, false, _&&_, _||_}
 use mathlib.Core.List.{List, [], _∷_, _++_}
-use mathlib.Core.Option.{some, none}
+use mathlib.Core.Option.{Option, some, none}
 use borrow.Author.Tests.{lt-ltb, ne-eqb, eqb-false}
 use lib.Dec.{eqb, ltb}
 use lib.ListN.{length, getD}
@@ -14,47 +14,47 @@ use Rattle.rules.specs.Tokens.{ofTokens, ends, grown}
 use Rattle.rules.specs.Laws.Tests.{anyOf-in, decide, or-nl, or-nr}
 use Rattle.rules.specs.Laws.Endings.{front→ends}
 use Rattle.book.specs.Laws.Accepted.{Fit}
-use Rattle.image.specs.Rounds.{Reached, down, reached}
-use Rattle.image.specs.Laws.Round.{down-cases}
+use Rattle.image.specs.Rounds.{Reached, meeting, down, reached}
+use Rattle.image.specs.Laws.Down.{down-cases}
 
 -- A walk only gets deeper.
-down-deeper : {E : Type 0} (tree : Tree E) (image : List ℕ) (b fuel : ℕ) (v : E) (d : ℕ) (m : Bool)
+pub down-deeper : {E : Type 0} (tree : Tree E) (image : List ℕ) (b fuel : ℕ) (v : E) (d : ℕ) (m : List ℕ)
     → d ≤ down tree image b fuel v d m .depth
 down-deeper tree image b zero v d m = omega arith
 down-deeper tree image b (suc fuel) v d m =
-    down-cases tree image b fuel v d m (λ r _. d ≤ r .depth) (λ _. omega arith) (λ _ _. omega arith)
-    (λ _ w _. omega (arith, down-deeper tree image b fuel w (d + 1) (m || not (eqb (tree .token w) 0))))
+    down-cases tree image b fuel v d m (λ r. d ≤ r .depth) (λ _. omega arith) (λ _ _. omega arith)
+    (λ _ w _. omega (arith, down-deeper tree image b fuel w (d + 1) (meeting m (tree .token w))))
 
 some-injective : {x y : ℕ} → some x ≡ some y → x ≡ y
 some-injective {x} e = ap (λ o. elim o [ none ↦ x | some z ↦ z ]) e
 
 -- A byte that closes a walk is the one at its depth, which is not the boundary.
-pub down-closes : {E : Type 0} (tree : Tree E) (image : List ℕ) (b fuel : ℕ) (v : E) (d : ℕ) (m : Bool) (y : ℕ)
+pub down-closes : {E : Type 0} (tree : Tree E) (image : List ℕ) (b fuel : ℕ) (v : E) (d : ℕ) (m : List ℕ) (y : ℕ)
     → down tree image b fuel v d m .closing ≡ some y
     → let k = down tree image b fuel v d m .depth in (getD image (b - 1 - k) 0 ≡ y) × (k ≡ b → ⊥)
 down-closes tree image b zero v d m y = λ e. absurd (let z : _≡_ {A = ℕ} 0 1 = cc in omega arith)
 down-closes tree image b (suc fuel) v d m y =
-    down-cases tree image b fuel v d m (λ r _. r .closing ≡ some y → (getD image (b - 1 - r .depth) 0 ≡ y) × (r .depth ≡ b → ⊥))
+    down-cases tree image b fuel v d m (λ r. r .closing ≡ some y → (getD image (b - 1 - r .depth) 0 ≡ y) × (r .depth ≡ b → ⊥))
     (λ _ e. absurd (let z : _≡_ {A = ℕ} 0 1 = cc in omega arith))
     (λ t _ e. (some-injective e, eqb-false d b (or-nr (tree .leaf v) _ t)))
-    (λ _ w _ e. down-closes tree image b fuel w (d + 1) (m || not (eqb (tree .token w) 0)) y e)
+    (λ _ w _ e. down-closes tree image b fuel w (d + 1) (meeting m (tree .token w)) y e)
 
 -- Where it ends is told by the bytes that it looked at.
 pub down-local : {E : Type 0} (tree : Tree E) (image : List ℕ) (b c k y : ℕ) → k < c
     → ((j : ℕ) → j ≤ k → getD image (c - 1 - j) 0 ≡ getD image (b - 1 - j) 0)
-    → (fuel more : ℕ) (v : E) (d : ℕ) (m : Bool) → k < d + more
+    → (fuel more : ℕ) (v : E) (d : ℕ) (m : List ℕ) → k < d + more
     → down tree image b fuel v d m .depth ≡ k → down tree image b fuel v d m .closing ≡ some y
     → down tree image c more v d m ≡ down tree image b fuel v d m
 down-local tree image b c k y h same zero more v d m l = λ p q. absurd (let z : _≡_ {A = ℕ} 0 1 = cc in omega arith)
 down-local tree image b c k y h same (suc fuel) zero v d m l = λ p q. absurd (omega (arith, down-deeper tree image b (suc fuel) v d m))
 down-local tree image b c k y h same (suc fuel) (suc more) v d m l =
-    down-cases tree image b fuel v d m (λ r _. r .depth ≡ k → r .closing ≡ some y → down tree image c (suc more) v d m ≡ r)
+    down-cases tree image b fuel v d m (λ r. r .depth ≡ k → r .closing ≡ some y → down tree image c (suc more) v d m ≡ r)
     (λ _ p q. absurd (let z : _≡_ {A = ℕ} 0 1 = cc in omega arith))
     (λ t e p q. cc (or-nl (tree .leaf v) _ t, ne-eqb d c (λ z. omega arith), same d (omega arith), e))
     (λ t w e p q.
-    let deep = down-deeper tree image b fuel w (d + 1) (m || not (eqb (tree .token w) 0)) in
-    let again = down-local tree image b c k y h same fuel more w (d + 1) (m || not (eqb (tree .token w) 0)) (omega arith) p q in
-    let step : down tree image c (suc more) v d m ≡ down tree image c more w (d + 1) (m || not (eqb (tree .token w) 0)) =
+    let deep = down-deeper tree image b fuel w (d + 1) (meeting m (tree .token w)) in
+    let again = down-local tree image b c k y h same fuel more w (d + 1) (meeting m (tree .token w)) (omega arith) p q in
+    let step : down tree image c (suc more) v d m ≡ down tree image c more w (d + 1) (meeting m (tree .token w)) =
     cc (or-nl (tree .leaf v) _ t, ne-eqb d c (λ z. omega (arith, deep)), same d (omega (arith, deep)), e) in
     step ∙ again)
 
@@ -84,7 +84,7 @@ module _ (tokens : List (List ℕ)) where
 
     -- No token ends with the first byte: the round ends there.
     pub first-ends : Fit tokens → 1 ≤ length tokens → 1 ≤ b → (x : ℕ) → x ≡ getD image (b - 1) 0 → anyOf (ends (x ∷ [])) tokens ≡ false
-        → ending ≡ record { node = []; depth = 0; closing = some x; marked = false }
+        → ending ≡ record { node = []; depth = 0; closing = some x; tokens = [] }
     first-ends fit some-token h x e f =
         let z : b - 1 - 0 ≡ b - 1 = omega arith in
         cc (root-grows fit some-token, ne-eqb 0 b (λ e. omega arith), z)
@@ -93,7 +93,7 @@ module _ (tokens : List (List ℕ)) where
     pub first-shut : (x : ℕ) → ending .depth ≡ 0 → ending .closing ≡ some x → anyOf (ends (x ∷ [])) tokens ≡ false
     first-shut x =
         let tree = ofTokens tokens S in
-        down-cases tree image b b [] 0 false (λ r _. r .depth ≡ 0 → r .closing ≡ some x → anyOf (ends (x ∷ [])) tokens ≡ false)
+        down-cases tree image b b [] 0 [] (λ r. r .depth ≡ 0 → r .closing ≡ some x → anyOf (ends (x ∷ [])) tokens ≡ false)
         (λ _ _ e. absurd (let z : _≡_ {A = ℕ} 0 1 = cc in omega arith))
         (λ _ k _ e. let z : getD image (b - 1 - 0) 0 ≡ x = cc in ungrown [] x (rw z at k))
-        (λ _ w _ z _. absurd (omega (arith, down-deeper tree image b b w (0 + 1) (false || not (eqb (tree .token w) 0)))))
+        (λ _ w _ z _. absurd (omega (arith, down-deeper tree image b b w (0 + 1) (meeting [] (tree .token w)))))

@@ -3,17 +3,17 @@ use Prim.Native.Nat.{ℕ, zero, suc, _+_, _-_, _*_, _≤_, _<_}
 use native.Mathlib.Omega.{arith}
 use native.Mathlib.Nat.{le-trans}
 use mathlib.Core.Path.{_≡_, refl, ap, sym, subst, _∙_}
-use mathlib.Core.Bool.{Bool, true, false, _||_, not}
+use mathlib.Core.Bool.{Bool, true, false, _||_}
 use mathlib.Core.List.{List, [], _∷_, _++_}
 use mathlib.Core.Option.{Option, some, none}
-use borrow.Author.Tests.{eqb-true, eqb-false, le-ltb, not-false}
+use borrow.Author.Tests.{eqb-false, le-ltb}
 use lib.Dec.{eqb}
 use lib.ListN.{length, getD, take, drop}
-use Rattle.rules.specs.Rules.{Tree, Stretch, Config, Event, Step, goes, hitAt, recall, ended, shiftedBy, endRound, taken, look, next, follow, trace}
+use Rattle.rules.specs.Rules.{Tree, Stretch, Config, Event, Step, goes, hitsUp, recall, ended, shiftedBy, endRound, taken, look, next, follow, trace}
 use Rattle.rules.specs.Tokens.{ofTokens, shiftOf}
 use Rattle.rules.specs.Sweep.{bytesOf, places, hits}
 use Rattle.rules.specs.Laws.Setting.{Setting}
-use Rattle.rules.specs.Laws.Tests.{or-nl, or-nr}
+use Rattle.rules.specs.Laws.Tests.{or-nr}
 use Rattle.rules.specs.Laws.Limit.{ended-laid}
 use Rattle.rules.specs.Laws.Limit.Span.{Spans, kept-spans}
 use Rattle.rules.specs.Laws.Limit.Count.{loose}
@@ -22,52 +22,14 @@ use Rattle.rules.specs.Laws.Exact.Reads.{byteOf, reads→stands}
 use Rattle.rules.specs.Laws.Exact.Shift.{Known, shift-ge}
 use Rattle.rules.specs.Laws.Exact.Configs.{Inv, end-inv, recall-known}
 use Rattle.rules.specs.Laws.Exact.Walk.{NextGood, next-good}
-use Rattle.image.specs.Rounds.{Reached, mark, down, passed, reached, met, lowest}
+use Rattle.image.specs.Rounds.{Reached, meeting, down, reached, met, lowest}
+use Rattle.image.specs.Laws.Down.{down-cases, met-is}
 use Rattle.image.specs.Laws.Loose.{cost, loose-at, loose-none}
-use Rattle.image.specs.Laws.Events.{trace-few, trace-over}
+use Rattle.image.specs.Laws.Events.{end-places, end-hits, trace-few, trace-over}
 
 -- the start of a round at boundary b
 abbrev pub startAt : ℕ → List (Stretch (List ℕ)) → Config (List ℕ)
 startAt b ss = record { boundary = b; node = []; depth = 0; stretches = ss }
-
-module _ {E : Type 0} (tree : Tree E) (image : List ℕ) (b : ℕ) where
-  -- How a walk goes on: it stops, a byte closes it, or it goes to a child.
-  pub down-cases : (fuel : ℕ) (v : E) (d : ℕ) (m : Bool) (P : Reached E → List (ℕ × ℕ) → Type 0)
-      → ((tree .leaf v || eqb d b) ≡ true → P (record { node = v; depth = d; closing = none; marked = m }) [])
-      → ((tree .leaf v || eqb d b) ≡ false → tree .child v (getD image (b - 1 - d) 0) ≡ none
-      → P (record { node = v; depth = d; closing = some (getD image (b - 1 - d) 0); marked = m }) [])
-      → ((tree .leaf v || eqb d b) ≡ false → (w : E) → tree .child v (getD image (b - 1 - d) 0) ≡ some w
-      → P (down tree image b fuel w (d + 1) (m || not (eqb (tree .token w) 0))) (mark b (tree .token w) ++ passed tree image b fuel w (d + 1)))
-      → P (down tree image b (suc fuel) v d m) (passed tree image b (suc fuel) v d)
-  down-cases fuel v d m P f g h = go (tree .leaf v || eqb d b) (tree .child v (getD image (b - 1 - d) 0)) refl refl
-    where
-      go : (t : Bool) (o : Option E) → (tree .leaf v || eqb d b) ≡ t → tree .child v (getD image (b - 1 - d) 0) ≡ o
-          → P
-          (elim t [
-            | true ↦ record { node = v; depth = d; closing = none; marked = m }
-            | false ↦ elim o [
-              | none ↦ record { node = v; depth = d; closing = some (getD image (b - 1 - d) 0); marked = m }
-              | some w ↦ down tree image b fuel w (d + 1) (m || not (eqb (tree .token w) 0))
-            ]
-          ])
-          (elim t [
-            | true ↦ []
-            | false ↦ elim o [ none ↦ [] | some w ↦ mark b (tree .token w) ++ passed tree image b fuel w (d + 1) ]
-          ])
-      go true o e q = f e
-      go false none e q = g e q
-      go false (some w) e q = h e w q
-
-  -- A walk that met no token has no hit.
-  pub unmet-none : (fuel : ℕ) (v : E) (d : ℕ) (m : Bool) → down tree image b fuel v d m .marked ≡ false
-      → (m ≡ false) × (passed tree image b fuel v d ≡ [])
-  unmet-none zero v d m = λ e. (e, refl)
-  unmet-none (suc fuel) v d m =
-      down-cases fuel v d m (λ r found. r .marked ≡ false → (m ≡ false) × (found ≡ [])) (λ _ e. (e, refl)) (λ _ _ e. (e, refl))
-      (λ _ w _ e.
-      let r = unmet-none fuel w (d + 1) (m || not (eqb (tree .token w) 0)) e in
-      let z : tree .token w ≡ 0 = eqb-true _ _ (not-false _ (or-nr m _ (r .0))) in
-      (or-nl m _ (r .0), rw z (r .1)))
 
 module _ (tokens : List (List ℕ)) (S D : ℕ) (setting : Setting tokens S D) (image : List ℕ) where
   -- What is fetched and what is found from the start of a round on, in at most `fuel` steps.
@@ -105,7 +67,6 @@ module _ (tokens : List (List ℕ)) (S D : ℕ) (setting : Setting tokens S D) (
     pub inside : ending b .depth ≤ b
     pub short : ending b .depth ≤ D
     pub bytes : ending b .node ≡ take (ending b .depth) (drop (b - ending b .depth) image)
-    pub unmet : ending b .marked ≡ false → met (ofTokens tokens S) image b ≡ []
 
   -- The round at boundary b.
   module _ (b : ℕ) (ss : List (Stretch (List ℕ))) (spans : Spans D b 0 ss) (h : b ≤ length image) where
@@ -121,46 +82,35 @@ module _ (tokens : List (List ℕ)) (S D : ℕ) (setting : Setting tokens S D) (
     abbrev over : Reached (List ℕ) → Config (List ℕ)
     over r = endRound tree (here (r .node) (r .depth)) (r .closing) .config
 
-    -- From depth d on the events `es` are those of a walk that finds `found` and ends at r, and of what happens after the round.
-    record Rest (d : ℕ) (r : Reached (List ℕ)) (found : List (ℕ × ℕ)) (es : List (Event (List ℕ))) : Type 0 where
+    -- From depth d on the events `es` are those of a walk that ends at r, and of what happens after the round.
+    record Rest (d : ℕ) (r : Reached (List ℕ)) (es : List (Event (List ℕ))) : Type 0 where
       left : ℕ
       count : ℕ
       inv : Inv (byteOf image) D (here (r .node) (r .depth))
       enough : stepsLeft (length image) D b (r .depth) ≤ left
       fetches : loose b (b - d) ss + length (places es) ≡ loose b (lowest b r) ss + length (places (run left count (over r)))
-      finds : hits es ≡ found ++ hits (run left count (over r))
+      finds : hits es ≡ hits (hitsUp tree b (r .node) (r .depth)) ++ hits (run left count (over r))
 
     -- So it is where the round ends,
     end-rest : (fuel k e : ℕ) (r : Reached (List ℕ)) → Inv (byteOf image) D (here (r .node) (r .depth))
         → stepsLeft (length image) D b (r .depth) ≤ fuel → b - e ≡ lowest b r
-        → Rest e r [] (endRound tree (here (r .node) (r .depth)) (r .closing) .events ++ run fuel k (over r))
-    end-rest fuel k e r i l z = record {
-      left = fuel;
-      count = k;
-      inv = i;
-      enough = l;
-      fetches = ap (λ q. loose b q ss + length (places (run fuel k (over r)))) z;
-      finds = refl;
-    }
-
-    -- with a hit in front,
-    hit-rest : (t e : ℕ) (r : Reached (List ℕ)) (found : List (ℕ × ℕ)) (es : List (Event (List ℕ))) → Rest e r found es
-        → Rest e r (mark b t ++ found) (hitAt b t ++ es)
-    hit-rest zero e r found es w = w
-    hit-rest (suc t) e r found es w = record {
-      left = w .left;
-      count = w .count;
-      inv = w .inv;
-      enough = w .enough;
-      fetches = w .fetches;
-      finds = ap (λ (l : List (ℕ × ℕ)). (b, suc t) ∷ l) (w .finds);
-    }
+        → Rest e r (endRound tree (here (r .node) (r .depth)) (r .closing) .events ++ run fuel k (over r))
+    end-rest fuel k e r i l z =
+        let c = here (r .node) (r .depth) in
+        record {
+          left = fuel;
+          count = k;
+          inv = i;
+          enough = l;
+          fetches = rw (z, end-places tree c (r .closing) (run fuel k (over r))) refl;
+          finds = end-hits tree c (r .closing) (run fuel k (over r));
+        }
 
     -- and with a byte in front, fetched or recalled.
-    byte-rest : (x : Event (List ℕ)) (d : ℕ) (r : Reached (List ℕ)) (found : List (ℕ × ℕ)) (es : List (Event (List ℕ))) (o : Option ℕ)
+    byte-rest : (x : Event (List ℕ)) (d : ℕ) (r : Reached (List ℕ)) (es : List (Event (List ℕ))) (o : Option ℕ)
         → d < b → recall tree ss (b - 1 - d) ≡ o → length (places (x ∷ es)) ≡ cost o + length (places es) → hits (x ∷ es) ≡ hits es
-        → Rest (d + 1) r found es → Rest d r found (x ∷ es)
-    byte-rest x d r found es o d< e p q w =
+        → Rest (d + 1) r es → Rest d r (x ∷ es)
+    byte-rest x d r es o d< e p q w =
         let y : b - (d + 1) ≡ b - 1 - d = omega arith in
         let z : b - d ≡ suc (b - 1 - d) = omega arith in
         let c = rw e at (loose-at tree D b (b - 1 - d) 0 ss (omega arith) spans) in
@@ -173,11 +123,10 @@ module _ (tokens : List (List ℕ)) (S D : ℕ) (setting : Setting tokens S D) (
           finds = q ∙ w .finds;
         }
 
-    -- Each node has the walk of `down` and `passed` before it.
+    -- Each node has the walk of `down` before it.
     abbrev Walks : ℕ → ℕ → Type 0
-    Walks f fuel = (k : ℕ) (v : List ℕ) (d : ℕ) (m : Bool) → Inv (byteOf image) D (here v d) → b < f + d
-        → stepsLeft (length image) D b d < fuel
-        → Rest d (down tree image b f v d m) (passed tree image b f v d) (run fuel k (here v d))
+    Walks f fuel = (k : ℕ) (v : List ℕ) (d : ℕ) (m : List ℕ) → Inv (byteOf image) D (here v d) → b < f + d
+        → stepsLeft (length image) D b d < fuel → Rest d (down tree image b f v d m) (run fuel k (here v d))
 
     -- What comes next: the round stops, or looks at a place.
     module _ (v : List ℕ) (d : ℕ) where
@@ -193,27 +142,25 @@ module _ (tokens : List (List ℕ)) (S D : ℕ) (setting : Setting tokens S D) (
       abbrev by : ℕ → Step (List ℕ)
       by x = taken tree (here v d) x (tree .child v x)
 
-      abbrev After : Reached (List ℕ) → List (ℕ × ℕ) → ℕ → ℕ → Type 0
-      After r found x k =
+      abbrev After : Reached (List ℕ) → ℕ → ℕ → Type 0
+      After r x k =
           Inv (byteOf image) D (by x .config)
           → stepsLeft (length image) D (by x .config .boundary) (by x .config .depth) < stepsLeft (length image) D b d
-          → Rest (d + 1) r found (by x .events ++ run fuel k (by x .config))
+          → Rest (d + 1) r (by x .events ++ run fuel k (by x .config))
 
-      module _ (r : Reached (List ℕ)) (found : List (ℕ × ℕ)) (t : (tree .leaf v || eqb d b) ≡ false)
-          (w : (k : ℕ) → After r found (getD image (b - 1 - d) 0) k) where
+      module _ (r : Reached (List ℕ)) (t : (tree .leaf v || eqb d b) ≡ false) (w : (k : ℕ) → After r (getD image (b - 1 - d) 0) k) where
         d< : d < b
         d< = omega (arith, i .inside, eqb-false d b (or-nr (tree .leaf v) _ t))
 
         -- Whether its byte is remembered or not, the round takes the image's.
         look-rest : (o : Option ℕ) → recall tree ss (b - 1 - d) ≡ o → Known (byteOf image) (b - 1 - d) o
             → NextGood tokens S D setting image (here v d) (look tree (here v d) o)
-            → Rest d r found (follow tree (bytesOf image) (run fuel) k (here v d) (look tree (here v d) o))
-        look-rest none e known g = byte-rest _ d r found _ none d< e (omega arith) refl (w (k + 1) (g .inv) (g .less))
+            → Rest d r (follow tree (bytesOf image) (run fuel) k (here v d) (look tree (here v d) o))
+        look-rest none e known g = byte-rest _ d r _ none d< e (omega arith) refl (w (k + 1) (g .inv) (g .less))
         look-rest (some x) e known g =
-            byte-rest _ d r found _ (some x) d< e (omega arith) refl
-            (subst (λ y. After r found y k) (sym known) (w k) (g .inv) (g .less))
+            byte-rest _ d r _ (some x) d< e (omega arith) refl (subst (λ y. After r y k) (sym known) (w k) (g .inv) (g .less))
 
-        on-rest : Rest d r found (follow tree (bytesOf image) (run fuel) k (here v d) (next tree (length image) (here v d)))
+        on-rest : Rest d r (follow tree (bytesOf image) (run fuel) k (here v d) (next tree (length image) (here v d)))
         on-rest =
             rw (next-look v d t) (look-rest _ refl (recall-known (byteOf image) tokens S b ss (b - 1 - d) (i .holds))
             (rw (next-look v d t) at (next-good tokens S D setting image (here v d) i)))
@@ -223,11 +170,10 @@ module _ (tokens : List (List ℕ)) (S D : ℕ) (setting : Setting tokens S D) (
     unfolding trace
     walks-on f fuel ih k v d m i near l =
         let l′ : stepsLeft (length image) D b d ≤ fuel = omega arith in
-        down-cases tree image b f v d m (λ r found. Rest d r found (run (suc fuel) k (here v d)))
+        down-cases tree image b f v d m (λ r. Rest d r (run (suc fuel) k (here v d)))
         (λ t. rw (next-stop v d t) (end-rest fuel k d _ i l′ refl))
-        (λ t e. on-rest fuel k v d i _ _ t (λ k _ _. rw e (end-rest fuel k (d + 1) _ i l′ (omega arith))))
-        (λ t w e. on-rest fuel k v d i _ _ t (λ k j less.
-        rw e (hit-rest (tree .token w) _ _ _ _ (ih k w (d + 1) _ (rw e at j) (omega arith) (le-trans (rw e at less) l′)))))
+        (λ t e. on-rest fuel k v d i _ t (λ k _ _. rw e (end-rest fuel k (d + 1) _ i l′ (omega arith))))
+        (λ t w e. on-rest fuel k v d i _ t (λ k j less. rw e (ih k w (d + 1) _ (rw e at j) (omega arith) (le-trans (rw e at less) l′))))
 
     walks : (f fuel : ℕ) → Walks f fuel
     walks zero fuel k v d m i near l = absurd (omega (arith, i .inside))
@@ -253,7 +199,7 @@ module _ (tokens : List (List ℕ)) (S D : ℕ) (setting : Setting tokens S D) (
         }
 
     -- Nothing is loose at the start, so the walk from the root is the round.
-    whole : (fuel k : ℕ) → Rest 0 (ending b) (met tree image b) (run fuel k (startAt b ss)) → Round b ss fuel k
+    whole : (fuel k : ℕ) → Rest 0 (ending b) (run fuel k (startAt b ss)) → Round b ss fuel k
     whole fuel k w =
         let z : b - 0 ≡ b = omega arith in
         record {
@@ -261,16 +207,15 @@ module _ (tokens : List (List ℕ)) (S D : ℕ) (setting : Setting tokens S D) (
           count = w .count;
           starts = over-starts (ending b) (w .left) (w .inv) (w .enough);
           fetches = omega (arith, rw z at (w .fetches), loose-none tree D b 0 ss spans);
-          finds = w .finds;
+          finds = w .finds ∙ ap (λ l. l ++ hits (run (w .left) (w .count) (over (ending b)))) (met-is tokens S b image);
           inside = w .inv .inside;
           short = w .inv .short;
           bytes = end-bytes (ending b .node) (ending b .depth) (w .inv);
-          unmet = λ e. unmet-none tree image b (suc b) [] 0 false e .1;
         }
 
   pub round : (b : ℕ) (ss : List (Stretch (List ℕ))) (fuel k : ℕ) → Starts b ss fuel → b ≤ length image → Round b ss fuel k
   round b ss fuel k s h =
-      whole b ss (s .spans) h fuel k (walks b ss (s .spans) h (suc b) fuel k [] 0 false (s .inv) (omega arith) (s .enough h))
+      whole b ss (s .spans) h fuel k (walks b ss (s .spans) h (suc b) fuel k [] 0 [] (s .inv) (omega arith) (s .enough h))
 
   -- The first round starts so.
   pub first-starts : Starts S [] (suc (length image) * (D + 2))
@@ -287,9 +232,9 @@ module _ (tokens : List (List ℕ)) (S D : ℕ) (setting : Setting tokens S D) (
   pub none-found : (b : ℕ) (ss : List (Stretch (List ℕ))) (fuel k : ℕ) → length image < b → hitsFrom fuel k b ss ≡ []
   none-found b ss fuel k h = trace-over (ofTokens tokens S) (length image) (bytesOf image) fuel k (startAt b ss) h .1
 
-  -- Each step fetches a place at most, and finds a token at most.
+  -- No more is fetched or found than there are steps.
   pub fetches-few : (b : ℕ) (ss : List (Stretch (List ℕ))) (fuel k : ℕ) → fetchesFrom fuel k b ss ≤ fuel
   fetches-few b ss fuel k = trace-few (ofTokens tokens S) (length image) (bytesOf image) fuel k (startAt b ss) .0
 
   pub hits-few : (b : ℕ) (ss : List (Stretch (List ℕ))) (fuel k : ℕ) → length (hitsFrom fuel k b ss) ≤ fuel
-  hits-few b ss fuel k = trace-few (ofTokens tokens S) (length image) (bytesOf image) fuel k (startAt b ss) .1
+  hits-few b ss fuel k = omega (arith, trace-few (ofTokens tokens S) (length image) (bytesOf image) fuel k (startAt b ss) .1)

@@ -3,8 +3,7 @@ use Prim.Native.Nat.{ℕ, suc, _+_, _-_, _*_, _≤_, _<_, _^_}
 use native.Mathlib.Omega.{arith}
 use native.Mathlib.Nat.{mul-le-mul}
 use mathlib.Core.Path.{_≡_, refl, ap, sym, subst, _∙_}
-use mathlib.Core.List.{List, [], _∷_, _++_, append-nil}
-use mathlib.Core.Bool.{false}
+use mathlib.Core.List.{List, [], _++_, append-nil, append-assoc}
 use lib.ListN.{length, take, drop, length-append}
 use Rattle.rules.specs.Rules.{Stretch}
 use Rattle.rules.specs.Tokens.{ofTokens, shiftOf, shortestOf, longestOf}
@@ -21,10 +20,6 @@ use Rattle.image.specs.Rule5.{tokensOf}
 use Rattle.image.specs.Sweeping.{Standing, Stands}
 use Rattle.image.specs.Laws.Round.{Round, fetchesFrom, afterwards, round, first-starts, none-fetched, none-found, fetches-few, hits-few}
 use Rattle.image.specs.Laws.Spans.{loose-places, ended-places, spans-fit, spans-few}
-
-append-assoc : {A : Type 0} (l m n : List A) → (l ++ m) ++ n ≡ l ++ (m ++ n)
-append-assoc [] m n = refl
-append-assoc (x ∷ l) m n = cc (append-assoc l m n)
 
 module _ (book image : List ℕ) where
   abbrev ts : List (List ℕ)
@@ -150,9 +145,6 @@ module _ (book image : List ℕ) where
 
       pub matched : r .node ≡ take (r .depth) (drop (b - r .depth) image)
       matched = turn .bytes
-
-      pub unmet : r .marked ≡ false → met (ofTokens ts S) image b ≡ []
-      unmet = turn .unmet
 
       pub turns : (after : Standing) → after .boundary ≡ b + by
           → inUse (after .spans) ≡ renewed (b - r .depth) b (b + by) (inUse (at .spans)) → after .spans .used ≤ 5

@@ -2,30 +2,29 @@
 use Prim.Native.Nat.{ℕ, zero, suc, _+_, _-_, _≤_, _<_}
 use native.Mathlib.Omega.{arith}
 use mathlib.Core.Path.{_≡_, refl, ap, sym, subst, _∙_}
-use mathlib.Core.List.{List, [], _++_, append-nil}
+use mathlib.Core.List.{List, [], _++_, map, append-nil}
 use mathlib.Core.Option.{some}
-use mathlib.Core.Bool.{false}
 use lib.ListN.{length, getD}
 use Rattle.rules.specs.Tokens.{ofTokens, shiftOf, shortestOf}
 use Rattle.rules.specs.Laws.Limit.Count.{loose}
 use Rattle.book.specs.Laws.Accepted.{accepted-fit, accepted-some}
 use Rattle.image.specs.declared.spans.Spans.{Spans}
-use Rattle.image.specs.Rounds.{Reached, reached, lowest}
+use Rattle.image.specs.Rounds.{Reached, reached, met, lowest}
 use Rattle.image.specs.Spans.{inUse, renewed}
 use Rattle.image.specs.Rule5.{tokensOf, BySkip}
 use Rattle.image.specs.Sweeping.{Standing, Stands, Seen, onAt}
 use Rattle.image.specs.Laws.Roots.{down-local, first-ends}
 use Rattle.image.specs.Laws.Spans.{none-renewed, none-loose}
-use Rattle.image.specs.Laws.RoundByRound.{turns, raised, unmet}
+use Rattle.image.specs.Laws.RoundByRound.{turns, raised}
 
 -- What it fetches and remembers, if it ends so at boundary b, d deep.
-module _ (f : Spans) (none : f .used ≡ 0) (b d y : ℕ) (r : Reached (List ℕ)) (deep : r .depth ≡ d) (closing : r .closing ≡ some y)
+module _ (f : Spans) (bare : f .used ≡ 0) (b d y : ℕ) (r : Reached (List ℕ)) (deep : r .depth ≡ d) (closing : r .closing ≡ some y)
     (h : d < b) where
   nothing-kept : (by : ℕ) → 1 ≤ by → d < 4 → inUse f ≡ renewed (b - r .depth) b (b + by) (inUse f)
-  nothing-kept by i l = none-renewed f none b (r .depth) by (omega arith) i (omega arith)
+  nothing-kept by i l = none-renewed f bare b (r .depth) by (omega arith) i (omega arith)
 
   some-loose : d + 1 ≡ loose b (lowest b r) (inUse f)
-  some-loose = sym (none-loose f none b (lowest b r) ∙ rw closing (omega arith))
+  some-loose = sym (none-loose f bare b (lowest b r) ∙ rw closing (omega arith))
 
 module _ (book image : List ℕ) (at : Standing) (found : List (ℕ × ℕ)) (s : Stands book image at found) (h : at .boundary ≤ length image) where
   abbrev ts : List (List ℕ)
@@ -43,22 +42,22 @@ module _ (book image : List ℕ) (at : Standing) (found : List (ℕ × ℕ)) (s 
   abbrev by : ℕ
   by = shiftOf ts S (r .node) (r .closing)
 
-  module _ (none : at .spans .used ≡ 0) where
+  module _ (bare : at .spans .used ≡ 0) where
     -- Where nothing is remembered, a round that ends soon and meets no token fetches all it looks at, and leaves nothing.
-    pub passes : (d y : ℕ) → r .depth ≡ d → r .closing ≡ some y → r .marked ≡ false → d < 4 → d < b
+    pub passes : (d y : ℕ) → r .depth ≡ d → r .closing ≡ some y → r .tokens ≡ [] → d < 4 → d < b
         → Stands book image (onAt at (b + by) (d + 1)) found
-    passes d y deep closing unmarked l i =
-        let no-hit = unmet book image at found s h unmarked in
+    passes d y deep closing free l i =
+        let no-hit : met (ofTokens ts S) image b ≡ [] = ap (map (λ i. (b, i))) free in
         let z : at .hits ≡ at .hits + 0 = omega arith in
         subst (Stands book image (onAt at (b + by) (d + 1))) (ap (λ l. found ++ l) no-hit ∙ append-nil found)
         (turns book image at found s h (onAt at (b + by) (d + 1)) refl
-        (nothing-kept (at .spans) none b d y r deep closing i by (raised book image at found s h .0) l) (s .few)
-        (ap (λ n. at .fetched + n) (some-loose (at .spans) none b d y r deep closing i))
+        (nothing-kept (at .spans) bare b d y r deep closing i by (raised book image at found s h .0) l) (s .few)
+        (ap (λ n. at .fetched + n) (some-loose (at .spans) bare b d y r deep closing i))
         (z ∙ ap (λ l. at .hits + length l) (sym no-hit)))
 
     module _ (skip : List ℕ) (right : BySkip book S skip) (x : ℕ) (is : x ≡ getD image (b - 1) 0) (byte : x < 256)
         (some-shift : getD skip x 0 ≡ 0 → ⊥) where
-      ends-so : r ≡ record { node = []; depth = 0; closing = some x; marked = false }
+      ends-so : r ≡ record { node = []; depth = 0; closing = some x; tokens = [] }
       ends-so =
           first-ends ts S image b (accepted-fit book ts (s .read)) (accepted-some book ts (s .read)) (s .positive) x is (right .right x byte some-shift .0)
 
@@ -68,13 +67,13 @@ module _ (book image : List ℕ) (at : Standing) (found : List (ℕ × ℕ)) (s 
       pub skims : Stands book image (onAt at (b + getD skip x 0) 1) found
       skims =
           subst (λ n. Stands book image (onAt at (b + n) 1) found) by-is
-          (passes 0 x (ap (λ r. r .depth) ends-so) (ap (λ r. r .closing) ends-so) (ap (λ r. r .marked) ends-so) (omega arith) (omega (arith, s .positive)))
+          (passes 0 x (ap (λ r. r .depth) ends-so) (ap (λ r. r .closing) ends-so) (ap (λ r. r .tokens) ends-so) (omega arith) (omega (arith, s .positive)))
 
     -- By a round that was seen to end at its second byte.
     module _ (y x n : ℕ) (seen : Seen book image y x n) (i : 2 ≤ b) (first : getD image (b - 1) 0 ≡ x) (second : getD image (b - 2) 0 ≡ y) where
       alike : r ≡ reached (ofTokens ts S) image (seen .b)
       alike =
-          down-local (ofTokens ts S) image (seen .b) b 1 y (omega arith) (λ j. byte-at j) (suc (seen .b)) (suc b) [] 0 false (omega arith)
+          down-local (ofTokens ts S) image (seen .b) b 1 y (omega arith) (λ j. byte-at j) (suc (seen .b)) (suc b) [] 0 [] (omega arith)
           (seen .deep) (seen .closing)
         where
           byte-at : (j : ℕ) → j ≤ 1 → getD image (b - 1 - j) 0 ≡ getD image (seen .b - 1 - j) 0
@@ -93,4 +92,4 @@ module _ (book image : List ℕ) (at : Standing) (found : List (ℕ × ℕ)) (s 
           let e : by ≡ n = ap (λ r. shiftOf ts S (r .node) (r .closing)) alike ∙ sym (seen .shift) in
           subst (λ n. Stands book image (onAt at (b + n) 2) found) e
           (passes 1 y (ap (λ r. r .depth) alike ∙ seen .deep) (ap (λ r. r .closing) alike ∙ seen .closing)
-          (ap (λ r. r .marked) alike ∙ seen .unmet) (omega arith) (omega arith))
+          (ap (λ r. r .tokens) alike ∙ seen .unmet) (omega arith) (omega arith))

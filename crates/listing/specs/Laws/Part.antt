@@ -13,7 +13,7 @@ use Rattle.rules.specs.Laws.Setting.{Setting}
 use Rattle.rules.specs.Laws.Exact.{happens-exact}
 use Rattle.rules.specs.Laws.Exact.Reads.{byteOf, stands→reads, reads→stands}
 use Rattle.rules.specs.Laws.Members.{select-in, select-out}
-use Rattle.rules.specs.Laws.Rising.{rising-moved, rising-select, same-members}
+use Rattle.rules.specs.Laws.Ordered.{ordered-moved, ordered-select, same-members}
 use Rattle.listing.specs.Parts.{between, past, upTo}
 
 pub pair : (g h : ℕ × ℕ) → g .0 ≡ h .0 → g .1 ≡ h .1 → g ≡ h
@@ -93,8 +93,8 @@ module _ (tokens : List (List ℕ)) (setting : Setting tokens (shortestOf tokens
   pub part : past at (map (further from) (hitsOf tokens (between from to image))) ≡ past at (upTo to (hitsOf tokens image))
   part =
       same-members tokens _ _
-      (rising-select tokens (λ h. ltb at (h .0)) (map (further from) ofPart)
-      (rising-moved tokens from ofPart (happens-exact tokens setting (between from to image) .rising)))
-      (rising-select tokens (λ h. ltb at (h .0)) (upTo to ofImage)
-      (rising-select tokens (λ h. leb (h .0) to) ofImage (happens-exact tokens setting image .rising)))
+      (ordered-select tokens (λ h. ltb at (h .0)) (map (further from) ofPart)
+      (ordered-moved tokens from ofPart (happens-exact tokens setting (between from to image) .occurrences .ordered)))
+      (ordered-select tokens (λ h. ltb at (h .0)) (upTo to ofImage)
+      (ordered-select tokens (λ h. leb (h .0) to) ofImage (happens-exact tokens setting image .occurrences .ordered)))
       out back

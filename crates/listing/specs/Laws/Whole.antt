@@ -27,17 +27,17 @@ module _ {A : Type 0} (p : A → Bool) where
   select-none (a ∷ l) f = cc (f a (List·Memᴰ·head refl), select-none l (λ b m. f b (List·Memᴰ·tail m)))
 
 -- The hits past `at`, cut at `to`: ends never fall.
-cut : (at to : ℕ) → at ≤ to → (l : List (ℕ × ℕ)) → Ordered l → past at (upTo to l) ++ past to l ≡ past at l
-cut at to h [] o = refl
-cut at to h (g ∷ l) o =
-    let ih = cut at to h l (o .1) in
+cut : (tokens : List (List ℕ)) (at to : ℕ) → at ≤ to → (l : List (ℕ × ℕ)) → Ordered tokens l → past at (upTo to l) ++ past to l ≡ past at l
+cut tokens at to h [] o = refl
+cut tokens at to h (g ∷ l) o =
+    let ih = cut tokens at to h l (o .1) in
     decide {X = ℕ} (λ _. past at (upTo to (g ∷ l)) ++ past to (g ∷ l) ≡ past at (g ∷ l)) (leb (g .0) to) 0 0
     (λ t.
     let u : ltb to (g .0) ≡ false = le-ltb to (g .0) (leb-true (g .0) to t) in
     decide {X = ℕ} (λ _. past at (upTo to (g ∷ l)) ++ past to (g ∷ l) ≡ past at (g ∷ l)) (ltb at (g .0)) 0 0 (λ v. cc) (λ v. cc))
     (λ f.
     let b = leb-false (g .0) to f in
-    let n : upTo to l ≡ [] = select-none (λ h. leb (h .0) to) l (λ x m. lt-leb (x .0) to (omega (arith, o .0 (x .0) (x .1) m))) in
+    let n : upTo to l ≡ [] = select-none (λ h. leb (h .0) to) l (λ x m. lt-leb (x .0) to (omega (arith, o .0 x m .0))) in
     cc (lt-ltb to (g .0) b, lt-ltb at (g .0) (omega arith)))
 
 module _ (book : List ℕ) (tokens : List (List ℕ)) (read : readBook book ≡ accepted tokens) (image : List ℕ) where
@@ -57,7 +57,7 @@ module _ (book : List ℕ) (tokens : List (List ℕ)) (read : readBook book ≡ 
       let on : at < toAt tokens image at = omega (arith, accepted-longest book tokens read) in
       let p = part tokens (accepted-setting book tokens read) image (fromAt tokens image at) at (toAt tokens image at) (omega arith) (omega arith) in
       let q = listed-past fuel (toAt tokens image at) (omega arith) in
-      cc (cut at (toAt tokens image at) (omega arith) (hitsOf tokens image) (found .ordered)))
+      cc (cut tokens at (toAt tokens image at) (omega arith) (hitsOf tokens image) (found .ordered)))
       (λ f. sym (none-past at (ltb-false at (length image) f)))
 
   pub whole : listedFrom tokens image (length image) 0 ≡ hitsOf tokens image

@@ -16,13 +16,13 @@ use Rattle.scan.specs.State.{unused}
 use Rattle.scan.specs.Calls.{Stepped}
 use Rattle.scan.specs.Results.{Opened, opened}
 use Rattle.probe.specs.Numbers.{openingOf}
-use Rattle.probe.specs.States.{Lent, flag, slotNumbers, isState, stateIn, laidOver, noState, startIn, handed, stepIn}
+use Rattle.probe.specs.States.{Lent, flag, size, slotNumbers, isState, stateIn, laidOver, noState, startIn, handed, stepIn}
 
-pub isState-room : (ns : List ℕ) → 23 ≤ length ns → isState ns ≡ leb (getD ns 6 0) 1
+pub isState-room : (ns : List ℕ) → size ≤ length ns → isState ns ≡ leb (getD ns 6 0) 1
 isState-room ns h = rw (isState, le-leb _ _ h)
 
-pub room : (ns : List ℕ) → isState ns ≡ true → 23 ≤ length ns
-room ns e = leb-true 23 (length ns) (and-l (leb 23 (length ns)) (leb (getD ns 6 0) 1) e)
+pub room : (ns : List ℕ) → isState ns ≡ true → size ≤ length ns
+room ns e = leb-true size (length ns) (and-l (leb size (length ns)) (leb (getD ns 6 0) 1) e)
 
 pub on : (step : Scan → Stepped) (ns : List ℕ) → isState ns ≡ true → stepIn step ns ≡ handed (step (stateIn ns)) ns
 on step ns e = rw (stepIn, e)
@@ -34,10 +34,10 @@ off step ns e = rw (stepIn, e)
 abbrev pub startedIn : List ℕ → Opened → Lent
 startedIn ns o = record { state = laidOver (o .state) ns; told = openingOf (o .verdict) }
 
-pub started : (v : Verdict Scan) (ns : List ℕ) → 23 ≤ length ns → startIn v ns ≡ startedIn ns (opened v)
+pub started : (v : Verdict Scan) (ns : List ℕ) → size ≤ length ns → startIn v ns ≡ startedIn ns (opened v)
 started v ns h = rw (startIn, le-leb _ _ h)
 
-pub unstarted : (v : Verdict Scan) (ns : List ℕ) → length ns < 23 → startIn v ns ≡ record { state = ns; told = noState }
+pub unstarted : (v : Verdict Scan) (ns : List ℕ) → length ns < size → startIn v ns ≡ record { state = ns; told = noState }
 unstarted v ns h = rw (startIn, lt-leb _ _ h)
 
 -- five slots, one by one
@@ -55,11 +55,13 @@ five (p ∷ q ∷ r ∷ s ∷ t ∷ u ∷ ss) h = absurd (omega (arith, h))
 
 -- a state's numbers, where n says whether a byte is due and the slots are these
 abbrev pub numbersBy : Scan → ℕ → List Slot → List ℕ
-numbersBy s n ss = s .image ∷ s .shortest ∷ s .count ∷ s .boundary ∷ s .node ∷ s .depth ∷ n ∷ s .supplied ∷ slotNumbers ss
+numbersBy s n ss =
+    s .image ∷ s .shortest ∷ s .count ∷ s .boundary ∷ s .node ∷ s .depth ∷ n ∷ s .supplied
+    ∷ (slotNumbers ss ++ (s .end ∷ s .hit ∷ []))
 
 -- All of them stored one by one.
-pub laying : (s : Scan) (n : ℕ) (ns : List ℕ) → length (s .stretches) ≡ 5 → n ≡ flag (s .due) → 23 ≤ length ns
+pub laying : (s : Scan) (n : ℕ) (ns : List ℕ) → length (s .stretches) ≡ 5 → n ≡ flag (s .due) → size ≤ length ns
     → sets ns 0 (numbersBy s n (eachSlot (s .stretches))) ≡ laidOver s ns
 laying s n ns h e k =
     sets-eq (numbersBy s n (eachSlot (s .stretches))) ns 0 k
-    ∙ ap (λ ss. numbersBy s n ss ++ drop 23 ns) (sym (five (s .stretches) h)) ∙ rw e
+    ∙ ap (λ ss. numbersBy s n ss ++ drop size ns) (sym (five (s .stretches) h)) ∙ rw e

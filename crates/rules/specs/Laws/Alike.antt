@@ -3,11 +3,11 @@ use Prim.Native.Nat.{ℕ, zero, suc, _+_, _-_, _≤_, _<_}
 use native.Mathlib.Omega.{arith}
 use mathlib.Core.Path.{_≡_, refl, ap, sym, _∙_}
 use mathlib.Core.Bool.{Bool, true, false, _&&_, _||_}
-use mathlib.Core.List.{List, [], _∷_}
+use mathlib.Core.List.{List, [], _∷_, _++_}
 use mathlib.Core.Option.{Option, some, none}
 use borrow.Author.Tests.{leb-true, ltb-true}
 use lib.Dec.{leb, ltb, eqb}
-use Rattle.rules.specs.Rules.{Tree, Stretch, Config, shifted, Step, Next, finished, wants, goes, place, leftOver, cut, kept, recall, ended, shiftedBy, endRound, taken, takeByte, look, next, follow, trace}
+use Rattle.rules.specs.Rules.{Tree, Stretch, Config, Event, shifted, Step, Next, finished, wants, goes, place, hitAt, leftOver, cut, kept, hitsUp, recall, ended, shiftedBy, endRound, taken, takeByte, look, next, follow, trace}
 use Rattle.rules.specs.Laws.Tests.{and-l, and-r, next-cases}
 use Rattle.rules.specs.Laws.Limit.Span.{cut-ge}
 use Rattle.rules.specs.Laws.All.{All, all-append, all-select}
@@ -96,10 +96,25 @@ module _ {E F : Type 0} {here : Tree E} {there : Tree F} {f : E → F} {P : E �
       stretches-select f (kept (c .boundary + s)) (kept (c .boundary + s)) (λ s. refl) (ended here c),
     )
 
+    hits-same : (end k : ℕ) → k ≤ size (f (c .node)) → hitsUp there end (f (c .node)) k ≡ eventsOf f (hitsUp here end (c .node) k)
+    hits-same end zero h = refl
+    hits-same end (suc k) h =
+        let w = here .ancestor (c .node) (suc k) in
+        let same : there .token (there .ancestor (f (c .node)) (suc k)) ≡ here .token w =
+        ap (there .token) (sym (alike .ancestor (c .node) (suc k) (a .node) h)) ∙ sym (alike .token w (alike .ancestor-in (c .node) (suc k) (a .node) h)) in
+        cc (same, hits-same end k (omega arith), events-append f (hitAt end (here .token w)) (hitsUp here end (c .node) k), events-hit f end (here .token w))
+
     end-same : (o : Option ℕ) → endRound there (configOf f c) o ≡ stepOf f (endRound here c o)
     end-same o =
-        ap {B = Step F} (λ d. record { events = shifted (d .boundary) (d .stretches) ∷ []; config = d })
+        let hits = hitsUp here (c .boundary) (c .node) (c .depth) in
+        let c′ = endRound here c o .config in
+        ap {B = Step F} (λ d. ended-at (hitsUp there (c .boundary) (f (c .node)) (c .depth)) d)
         (ap (shiftedBy there (configOf f c)) (sym (alike .shift (c .node) o (a .node))) ∙ shifted-same (here .shift (c .node) o))
+        ∙ ap (λ es. ended-at es (configOf f c′)) (hits-same (c .boundary) (c .depth) (omega (arith, a .sized)))
+        ∙ cc (events-append f hits (shifted (c′ .boundary) (c′ .stretches) ∷ []))
+      where
+        ended-at : List (Event F) → Config F → Step F
+        ended-at es d = record { events = es ++ (shifted (d .boundary) (d .stretches) ∷ []); config = d }
 
     end-apt : (o : Option ℕ) → Apt (endRound here c o .config)
     end-apt o =
@@ -114,7 +129,7 @@ module _ {E F : Type 0} {here : Tree E} {there : Tree F} {f : E → F} {P : E �
     taken-same x none none h = end-same (some x)
     taken-same x none (some u) h = absurd h
     taken-same x (some w) none h = absurd h
-    taken-same x (some w) (some u) h = cc (h .1, alike .token w (h .0), events-hit f (c .boundary) (here .token w))
+    taken-same x (some w) (some u) h = cc (h .1)
 
     pub take-same : (x : ℕ) → takeByte there (configOf f c) x ≡ stepOf f (takeByte here c x)
     take-same x = taken-same x (here .child (c .node) x) (there .child (f (c .node)) x) (alike .child (c .node) x (a .node))

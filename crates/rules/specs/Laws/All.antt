@@ -1,9 +1,9 @@
 -- What holds of each element of a list, and of those that are selected from it.
 use Prim.Native.Nat.{suc, _≤_}
 use native.Mathlib.Omega.{arith}
-use mathlib.Core.Path.{_≡_, refl, ap}
+use mathlib.Core.Path.{_≡_, refl, ap, sym, subst}
 use mathlib.Core.Bool.{Bool, true, false}
-use mathlib.Core.List.{List, [], _∷_, _++_}
+use mathlib.Core.List.{List, [], _∷_, _++_, List·Memᴰ, List·Memᴰ·head, List·Memᴰ·tail}
 use lib.ListN.{length}
 use Rattle.rules.specs.Lists.{select}
 use Rattle.rules.specs.Laws.Tests.{decide}
@@ -24,6 +24,10 @@ module _ {ℓ} {A : Type ℓ} where
   pub all-select : (P : A → Type 0) (p : A → Bool) (l : List A) → All P l → All P (select p l)
   all-select P p [] h = tt
   all-select P p (a ∷ l) h = decide (All P) (p a) _ _ (λ _. (h .0, all-select P p l (h .1))) (λ _. all-select P p l (h .1))
+
+pub all-mem : {A : Type 0} (P : A → Type 0) (a : A) (l : List A) → All P l → List·Memᴰ a l → P a
+all-mem P a (x ∷ l) h (List·Memᴰ·head e) = subst P (sym e) (h .0)
+all-mem P a (x ∷ l) h (List·Memᴰ·tail m) = all-mem P a l (h .1) m
 
 pub select-append : {A : Type 0} (p : A → Bool) (l m : List A) → select p (l ++ m) ≡ select p l ++ select p m
 select-append p [] m = refl

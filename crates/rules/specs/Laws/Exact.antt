@@ -1,9 +1,9 @@
--- The sweep finds every token wherever it stands, and nothing else, each once, from left to right; and it ends.
+-- The sweep finds every token wherever it stands, and nothing else, each once and in their order; and it ends.
 use Prim.Native.Nat.{ℕ, zero, suc, _+_, _-_, _*_, _≤_, _<_}
 use native.Mathlib.Omega.{arith}
 use native.Mathlib.Numerals.{add-one}
-use mathlib.Core.Path.{_≡_, refl, sym, subst}
-use mathlib.Core.List.{List, [], _∷_, List·Memᴰ, List·Memᴰ·head, List·Memᴰ·tail}
+use mathlib.Core.Path.{_≡_, refl}
+use mathlib.Core.List.{List, [], _∷_}
 use mathlib.Core.Option.{some, none}
 use borrow.Author.Tests.{leb-true}
 use lib.ListN.{length, getD}
@@ -16,9 +16,9 @@ use Rattle.rules.specs.Laws.Tests.{decide, and-l, anyOf-out}
 use Rattle.rules.specs.Laws.Limit.Ends.{stepsLeft, steps-enough, Whole, Finite, sweep-ends}
 use Rattle.rules.specs.Laws.Exact.Shift.{shift-ge}
 use Rattle.rules.specs.Laws.Exact.Reads.{byteOf}
-use Rattle.rules.specs.Laws.All.{All}
+use Rattle.rules.specs.Laws.All.{all-mem}
 use Rattle.rules.specs.Laws.Exact.Configs.{Inv}
-use Rattle.rules.specs.Laws.Exact.Events.{Rising, Real, Good, good-done, good-event}
+use Rattle.rules.specs.Laws.Exact.Events.{Real, Good, good-done, good-event}
 use Rattle.rules.specs.Laws.Exact.Walk.{NextGood, next-good}
 pub mod Reads
 pub mod Shift
@@ -41,11 +41,10 @@ tokens-finite tokens S D setting = record {
   moves = shift-ge tokens S;
 }
 
--- The events are those of a whole sweep whose hits are the occurrences, in the order of `Rising`.
+-- The events are those of a whole sweep whose hits are the occurrences.
 pub record Exact (tokens : List (List ℕ)) (image : List ℕ) (es : List (Event (List ℕ))) : Type 0 where
   pub whole : Whole es
   pub occurrences : Occurrences tokens image (hits es)
-  pub rising : Rising tokens (hits es)
 
 module _ (tokens : List (List ℕ)) (S D : ℕ) (setting : Setting tokens S D) (image : List ℕ) where
   -- what happens from a configuration on, after k fetches
@@ -55,14 +54,14 @@ module _ (tokens : List (List ℕ)) (S D : ℕ) (setting : Setting tokens S D) (
   -- what holds of it from any configuration on, with steps enough
   abbrev Enough : ℕ → Run → Type 0
   Enough fuel more = (k : ℕ) (c : Config (List ℕ)) → Inv (byteOf image) D c → stepsLeft (length image) D (c .boundary) (c .depth) < fuel
-      → Good tokens image (c .boundary) (c .depth) (more k c)
+      → Good tokens image (c .boundary) (suc D) (more k c)
 
   follow-good : (fuel : ℕ) (more : Run) → Enough fuel more → (k : ℕ) (c : Config (List ℕ)) (x : Next (List ℕ))
       → NextGood tokens S D setting image c x → stepsLeft (length image) D (c .boundary) (c .depth) < suc fuel
-      → Good tokens image (c .boundary) (c .depth) (follow (ofTokens tokens S) (bytesOf image) more k c x)
-  follow-good fuel more ih k c finished f h = good-done tokens image (c .boundary) (c .depth) f
+      → Good tokens image (c .boundary) (suc D) (follow (ofTokens tokens S) (bytesOf image) more k c x)
+  follow-good fuel more ih k c finished f h = good-done tokens image (c .boundary) (suc D) f
   follow-good fuel more ih k c (wants at) f h =
-      good-event tokens image (c .boundary) (c .depth) (fetched at) _ refl (f .back _ (ih (k + 1) _ (f .inv) (omega (arith, f .less))))
+      good-event tokens image (c .boundary) (suc D) (fetched at) _ refl (f .back _ (ih (k + 1) _ (f .inv) (omega (arith, f .less))))
   follow-good fuel more ih k c (goes s) f h = f .back _ (ih k _ (f .inv) (omega (arith, f .less)))
 
   trace-good : (fuel : ℕ) → Enough fuel (trace (ofTokens tokens S) (length image) (bytesOf image) fuel)
@@ -71,35 +70,26 @@ module _ (tokens : List (List ℕ)) (S D : ℕ) (setting : Setting tokens S D) (
   trace-good (suc fuel) k c v h =
       follow-good fuel _ (trace-good fuel) k c (next (ofTokens tokens S) (length image) c) (next-good tokens S D setting image c v) h
 
-pub all-mem : (P : ℕ × ℕ → Type 0) (a : ℕ × ℕ) (l : List (ℕ × ℕ)) → All P l → List·Memᴰ a l → P a
-all-mem P a (x ∷ l) h (List·Memᴰ·head e) = subst P (sym e) (h .0)
-all-mem P a (x ∷ l) h (List·Memᴰ·tail m) = all-mem P a l (h .1) m
-
-rising-once : (tokens : List (List ℕ)) (l : List (ℕ × ℕ)) → Rising tokens l → Once l
-rising-once tokens [] r = tt
-rising-once tokens (h ∷ l) r = ((λ m. let x = all-mem _ h l (r .0) m in omega (arith, x .1 (omega arith))), rising-once tokens l (r .1))
-
-rising-ordered : (tokens : List (List ℕ)) (l : List (ℕ × ℕ)) → Rising tokens l → Ordered l
-rising-ordered tokens [] r = tt
-rising-ordered tokens (h ∷ l) r = ((λ e i m. all-mem _ (e, i) l (r .0) m .0), rising-ordered tokens l (r .1))
+ordered-once : (tokens : List (List ℕ)) (l : List (ℕ × ℕ)) → Ordered tokens l → Once l
+ordered-once tokens [] o = tt
+ordered-once tokens (h ∷ l) o = ((λ m. let x = o .0 h m in omega (arith, x .1 (omega arith))), ordered-once tokens l (o .1))
 
 module _ (tokens : List (List ℕ)) (S D : ℕ) (setting : Setting tokens S D) (image : List ℕ) where
   real : (e i : ℕ) → Real tokens image e i → Stands tokens image e (i - 1) × (1 ≤ i)
   real e zero r = absurd r
   real e (suc i) r = let z : suc i - 1 ≡ i = omega arith in (rw z r, omega arith)
 
-  good-exact : (es : List (Event (List ℕ))) → Whole es → Good tokens image S 0 es → Exact tokens image es
+  good-exact : (es : List (Event (List ℕ))) → Whole es → Good tokens image S (suc D) es → Exact tokens image es
   good-exact es w g = record {
     whole = w;
     occurrences = record {
       sound = λ e i m. real e i (all-mem _ (e, i) (hits es) (g .sound) m .0);
       complete = λ e i s.
           let l = setting .shortest i (s .numbered) in
-          rw add-one (g .complete i e s (omega (arith, s .fits), λ _. omega (arith, setting .positive)));
-      once = rising-once tokens (hits es) (g .rising);
-      ordered = rising-ordered tokens (hits es) (g .rising);
+          rw add-one (g .complete i e s (omega (arith, s .fits), λ _. omega (arith, setting .longest i (s .numbered))));
+      once = ordered-once tokens (hits es) (g .ordered);
+      ordered = g .ordered;
     };
-    rising = g .rising;
   }
 
   pub exact : (fuel : ℕ) → length image * (D + 1) < fuel

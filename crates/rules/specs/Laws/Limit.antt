@@ -8,10 +8,11 @@ use lib.Dec.{ltb}
 use lib.ListN.{length, length-append}
 use native.Mathlib.Nat.{mul-le-mul-right, le-trans}
 use native.Mathlib.Omega.{arith}
-use Rattle.rules.specs.Rules.{Tree, Config, Event, Step, Next, finished, wants, goes, place, leftOver, kept, hitAt, deeper, fresh, recall, ended, shiftedBy, endRound, taken, takeByte, look, next, follow, trace}
+use Rattle.rules.specs.Rules.{Tree, Config, Event, Step, Next, finished, wants, goes, place, leftOver, kept, deeper, fresh, recall, ended, shiftedBy, endRound, taken, takeByte, look, next, follow, trace}
 use Rattle.rules.specs.Sweep.{digits4, limit, places, Few}
 use Rattle.rules.specs.Laws.Digits.{limit-mono, fewer}
 use Rattle.rules.specs.Laws.Tests.{next-cases}
+use Rattle.rules.specs.Laws.Hits.{end-before}
 use Rattle.rules.specs.Laws.Limit.Span.{Spans, Laid, Upto, short, laid, cut-ge, cut-le, kept-spans, kept-upto}
 use Rattle.rules.specs.Laws.All.{length-select}
 use Rattle.rules.specs.Laws.Limit.Count.{loose, worth, loose-less, loose-step, worth-raise, worth-cap, worth-kept, gain}
@@ -146,16 +147,13 @@ module _ {E : Type 0} (tree : Tree E) (size : E → ℕ) (D S : ℕ) (finite : F
           let c′ = endRound tree c o .config in
           let f = end-fine o .fine in
           let r = ih c′ f in
+          end-before tree (Ok (c .boundary) m) (λ end t es r. ((capped (c .boundary) (omega arith), r .0), r .1)) c o (rest c′)
           ((capped (c .boundary) (omega arith), r .0), (short D (c′ .boundary) 0 (c′ .stretches) D≥1 (f .held .spans), r .1))
-
-      hit-ok : (t : ℕ) (es : List (Event E)) → Ok (c .boundary) m es → Ok (c .boundary) m (hitAt (c .boundary) t ++ es)
-      hit-ok zero es r = r
-      hit-ok (suc t) es r = ((capped (c .boundary) (omega arith), r .0), r .1)
 
       taken-ok : Upto n (c .stretches) → (x : ℕ) (o : Option E) → tree .child (c .node) x ≡ o → c .depth < c .boundary
           → m + S ≤ funds D (place c) c → Ok (c .boundary) m (taken tree c x o .events ++ rest (taken tree c x o .config))
       taken-ok u x none e j k = end-ok (some x)
-      taken-ok u x (some v) e j k = hit-ok (tree .token v) (rest (deeper c v)) (ih (deeper c v) (taken-fine u x (some v) e j k .fine))
+      taken-ok u x (some v) e j k = ih (deeper c v) (taken-fine u x (some v) e j k .fine)
 
   -- What comes next, from any configuration that is fine.
   module _ (m : ℕ) (c : Config E) (f : Fine size D S n c m) where

@@ -3,7 +3,7 @@ use Prim.Native.Nat.{ℕ, _-_, _≤_}
 use mathlib.Core.Path.{_≡_, refl}
 use mathlib.Core.Bool.{Bool, true, false, _&&_, not}
 use mathlib.Core.List.{[]}
-use borrow.Author.Tests.{le-leb, lt-leb, leb-true, ltb-true, ltb-false}
+use borrow.Author.Tests.{le-leb, lt-leb, lt-ltb, le-ltb, leb-true, leb-false, ltb-true, ltb-false}
 use lib.Dec.{leb, ltb, eqb}
 use Rattle.rules.specs.Laws.Tests.{and-l, and-r}
 use Rattle.rules.specs.Rules.{Stretch, kept}
@@ -11,10 +11,11 @@ use Rattle.tables.specs.Tables.{Tables}
 use Rattle.tables.specs.Walks.{depth}
 use Rattle.trie.specs.Answers.{tables}
 use Rattle.scan.specs.declared.Scan.{Scan}
-use Rattle.scan.specs.State.{used, countOk, imageOk, shortestOk, nodeOk, boundaryOk, suppliedOk, stretchOk, stretchesOk, dueOk, inRange}
-use Rattle.scan.specs.Ways.{paths}
+use Rattle.scan.specs.State.{used, countOk, imageOk, shortestOk, nodeOk, boundaryOk, suppliedOk, stretchOk, stretchesOk, dueOk, leftOk, inRange}
+use Rattle.scan.specs.Ways.{paths, marks}
 use Rattle.scan.proofs.Laws.RangesDepth.{depth-same, rising-same}
 use Rattle.scan.proofs.Laws.RangesDue.{due-same}
+use Rattle.scan.proofs.Laws.RangesLeft.{left-same}
 
 pub first-holds : (a b : Bool) → a ≡ true → b ≡ (a && b)
 first-holds a b e = cc
@@ -26,6 +27,10 @@ first-fails a b e = cc
 pub leb-not : (x y : ℕ) {f : Bool} → ltb y x ≡ f → leb x y ≡ not f
 leb-not x y {f = true} e = lt-leb x y (ltb-true y x e)
 leb-not x y {f = false} e = le-leb x y (ltb-false y x e)
+
+pub ltb-not : (x y : ℕ) {f : Bool} → leb y x ≡ f → ltb x y ≡ not f
+ltb-not x y {f = true} e = le-ltb x y (leb-true y x e)
+ltb-not x y {f = false} e = lt-ltb x y (leb-false y x e)
 
 -- what a range says that is passed
 pub range-out : (low x high : ℕ) → (leb low x && leb x high) ≡ true → (low ≤ x) × (x ≤ high)
@@ -42,11 +47,11 @@ pub stretch-tests : (t : Tables) (s : Scan) (m : Stretch ℕ) {a b c d e : Bool}
 stretch-tests t s m {a} {b} {c} ea eb ec ed ee =
     cc (and-assoc (a && b && c) (ltb (m .node) (s .count)) (eqb (depth t (m .node)) (m .right - m .left)))
 
--- The tables count by their parents and first children alone.
-pub range-tests : (t : Tables) (s : Scan) {a b c d e f g h : Bool}
+-- The tables count by their parents, token numbers and first children alone.
+pub range-tests : (t : Tables) (s : Scan) {a b c d e f g h i : Bool}
     → countOk s ≡ a → imageOk s ≡ b → shortestOk s ≡ c → nodeOk (paths (t .parent) []) s ≡ d → boundaryOk s ≡ e → suppliedOk s ≡ f
-    → stretchesOk (paths (t .parent) []) s ≡ g → dueOk (tables [] [] [] (t .first) []) s ≡ h
-    → inRange t s ≡ (a && b && c && d && e && f && g && h)
-range-tests t s ea eb ec ed ee ef eg eh =
-    rw (← ea, ← eb, ← ec, ← ed, ← ee, ← ef, ← eg, ← eh)
-    (rw (depth-same t (s .node), rising-same t s 0 (used (s .stretches)), due-same t s))
+    → stretchesOk (paths (t .parent) []) s ≡ g → dueOk (tables [] [] [] (t .first) []) s ≡ h → leftOk (marks (t .parent) (t .token)) s ≡ i
+    → inRange t s ≡ (a && b && c && d && e && f && g && h && i)
+range-tests t s ea eb ec ed ee ef eg eh ei =
+    rw (← ea, ← eb, ← ec, ← ed, ← ee, ← ef, ← eg, ← eh, ← ei)
+    (rw (depth-same t (s .node), rising-same t s 0 (used (s .stretches)), due-same t s, left-same t s))

@@ -55,12 +55,13 @@ pub climb-done : {parent : List ℕ} {count node at n : ℕ} → Climb parent co
     → n ≡ depth (paths parent []) node
 climb-done {parent} s e = omega (arith, s .sum, ap (depth (paths parent [])) e)
 
--- Tables that pass refusal 9 can be climbed, and have a first child for each node.
-pub passing-out : {parent first : List ℕ} {count : ℕ} → Passing parent first count → 1 ≤ count
-    → Rises parent count × (count ≤ length first)
-passing-out {parent} {first} {count} p h =
-    let u = unbroken (tables parent (p .label) (p .token) first (p .next)) count h (p .fine) in (
+-- Tables that pass refusal 9 can be climbed, and have a token number and a first child for each node.
+pub passing-out : {parent token first : List ℕ} {count : ℕ} → Passing parent token first count → 1 ≤ count
+    → Rises parent count × (count ≤ length token) × (count ≤ length first)
+passing-out {parent} {token} {first} {count} p h =
+    let u = unbroken (tables parent (p .label) token first (p .next)) count h (p .fine) in (
       record { size = h; held = omega (arith, u .held); root = u .falling .root-up; ups = u .falling .ups },
+      omega (arith, u .held),
       omega (arith, u .held),
     )
 

@@ -1,133 +1,94 @@
--- A call that runs on: where it stands, and that the rest of the run from there is the whole run.
-use Prim.Native.Nat.{ℕ, suc, _<_}
+-- A call that runs on: the state it stands at, and that the rest of the run from there is the whole run.
+use Prim.Native.Nat.{ℕ, zero, suc, _+_, _*_, _<_}
 use native.Mathlib.Omega.{arith}
 use mathlib.Core.Path.{_≡_, refl, ap, sym, subst, _∙_}
-use mathlib.Core.Bool.{Bool, true, false}
 use mathlib.Core.Option.{none}
+use lib.ListN.{getD}
 use Rattle.book.specs.Book.{maxBody}
-use Rattle.rules.specs.Rules.{Config, Step, Next, finished, wants, goes, endRound, takeByte, next}
+use Rattle.rules.specs.Rules.{Step, Next, finished, wants, goes, endRound, takeByte, next}
 use Rattle.rules.specs.Laws.Limit.Ends.{stepsLeft}
 use Rattle.tables.specs.Tables.{Tables}
 use Rattle.scan.specs.declared.Scan.{Scan}
-use Rattle.scan.specs.declared.Answer.the-variants.{Fetch, Hit, Done}
+use Rattle.scan.specs.declared.Answer.the-variants.{Fetch, Done}
 use Rattle.scan.specs.declared.Stepped.{Stepped as Result}
-use Rattle.scan.specs.declared.steps.Found.the-variants.{On, Hit as Found}
-use Rattle.scan.specs.declared.steps.Taken.{Taken}
 use Rattle.scan.specs.declared.steps.Move.the-variants.{Finished, Wants, End, Take}
 use Rattle.scan.specs.State.{configOf, treeOf}
-use Rattle.scan.specs.Calls.{Hit as Heard, noHit, hitOf, hitIn, moved, settle, enough}
+use Rattle.scan.specs.Calls.{found, Stepped, awaiting, owing, told, stepped, settle, enough}
 use Rattle.scan.specs.Results.{steppedOf}
-use Rattle.scan.specs.Steps.{Steady, foundOf, takenBy, Chosen}
-use Rattle.scan.specs.Laws.Done.{moved-nowhere}
-use Rattle.scan.specs.Laws.Within.{moved-config, moved-slots}
-use Rattle.scan.specs.Laws.Stay.{next-within}
-use Rattle.scan.specs.Laws.Settle.{onHit, onNext}
-use Rattle.scan.specs.Laws.Kept.{NextFor, WithinFor, ample, settle-enough}
+use Rattle.scan.specs.Ways.{marks, Marked}
+use Rattle.scan.specs.Steps.{Stepping, Chosen}
+use Rattle.scan.specs.Laws.Ways.{carrier-alike, unbroken-marked}
+use Rattle.scan.specs.Laws.Stay.{WithinNext, next-within}
+use Rattle.scan.specs.Laws.Settle.{onLeft}
+use Rattle.scan.specs.Laws.Kept.{StepFor, Goes, step-goes, Ample, ample, settle-enough}
 
 -- The state u of a run that began at s.
 pub record Runs (t : Tables) (s u : Scan) : Type 0 where
-  pub config : Config ℕ
-  pub stands : u ≡ moved s config false
-  pub within : WithinFor t s config
-  pub rest : settle t s (enough s) config ≡ settle t s (enough s) (configOf s)
+  pub goes : Goes t u
+  pub image : u .image ≡ s .image
+  pub rest : settle t (enough s) u ≡ settle t (enough s) s
 
 -- A run that stands at u goes on from r, with fewer steps left.
 abbrev pub Onwards : Tables → Scan → Scan → Scan → Type 0
 Onwards t s u r = Runs t s r × (stepsLeft (s .image) maxBody (r .boundary) (r .depth) < stepsLeft (s .image) maxBody (u .boundary) (u .depth))
 
--- the same state, with a byte due
-abbrev waiting : Scan → Scan
-waiting s = record {
-  image = s .image;
-  shortest = s .shortest;
-  count = s .count;
-  boundary = s .boundary;
-  node = s .node;
-  depth = s .depth;
-  due = true;
-  stretches = s .stretches;
-  supplied = s .supplied;
-}
+pub begins : {t : Tables} {s : Scan} → Goes t s → Runs t s s
+begins g = record { goes = g; image = refl; rest = refl }
 
--- What was found says which hit there was.
-pub not-heard : (h : Heard) → foundOf h ≡ On → h ≡ noHit
-not-heard noHit e = refl
-not-heard (hitOf x i) e = cc
+abbrev Answers : Tables → Scan → Result → Type 0
+Answers t s a = steppedOf a ≡ settle t (enough s) s
 
-pub heard : (h : Heard) (x i : ℕ) → foundOf h ≡ Found x i → h ≡ hitOf x i
-heard noHit x i e = cc
-heard (hitOf y j) x i e = cc
+module _ {t : Tables} {s u : Scan} (runs : Runs t s u) where
+  -- The run is a step, and the run from there.
+  whole : (v : ℕ) → u .hit ≡ v → (x : Next ℕ) → next (treeOf t u) (u .image) (configOf u) ≡ x → onLeft t (enough s) u x v ≡ settle t (enough s) s
+  whole v e x is =
+      let a : Ample u (enough s) = subst (λ n. Ample u ((n + 2) * (maxBody + 2))) (runs .image) (ample u) in
+      ap (onLeft t (enough s) u x) (sym e) ∙ ap (λ x. onLeft t (enough s) u x (u .hit)) (sym is)
+      ∙ sym (settle-enough t (enough s) (suc (enough s)) u (runs .goes) a (omega arith, λ i. omega (arith, a .1 i))) ∙ runs .rest
 
-module _ {t : Tables} {s : Scan} (steady : Steady t s) where
-  pub begins : s .due ≡ false → Runs t s s
-  begins e = record {
-    config = configOf s;
-    stands = moved-nowhere s (steady .slots) e;
-    within = steady .within;
-    rest = refl;
-  }
+  -- A hit is left, and answered.
+  module _ (some : u .hit ≡ 0 → ⊥) where
+    pub runs-marked : Marked (t .parent) (t .token) (u .hit) × (0 < u .hit)
+    runs-marked =
+        let a : 0 < u .hit = omega arith in
+        (unbroken-marked t (u .count) (u .hit) (runs .goes .ready .tree) (runs .goes .left .some a .below), a)
 
-  -- A state that is moved to a configuration in range is steady.
-  pub moved-steady : (c : Config ℕ) → WithinFor t s c → (due : Bool) → Steady t (moved s c due)
-  moved-steady c w due = record {
-    ready = steady .ready;
-    within = subst (WithinFor t s) (sym (moved-config t s c w due)) w;
-    slots = moved-slots t s c w due;
-  }
+    pub runs-told : (r : Result) → steppedOf r ≡ told (marks (t .parent) (t .token)) u → Answers t s r
+    runs-told r is = is ∙ ap tells (carrier-alike (marks (t .parent) (t .token)) t refl refl (getD (t .parent) (u .hit) 0)) ∙ go (u .hit) refl some
+      where
+        tells : ℕ → Stepped
+        tells v = record { state = owing u (u .end) v; answer = found (u .end) (getD (t .token) (u .hit) 0) }
 
-  pub runs-steady : {u : Scan} → Runs t s u → Steady t u
-  runs-steady r = subst (Steady t) (sym (r .stands)) (moved-steady (r .config) (r .within) false)
+        go : (v : ℕ) → u .hit ≡ v → (v ≡ 0 → ⊥) → told t u ≡ settle t (enough s) s
+        go zero e h = absurd (h refl)
+        go (suc v) e h = whole (suc v) e _ refl
 
-  -- Settling is a step, and settling from there.
-  settle-next : (c : Config ℕ) → WithinFor t s c → settle t s (enough s) c ≡ onNext t s (enough s) c (next (treeOf t s) (s .image) c)
-  settle-next c w =
-      let a = ample s c in
-      settle-enough t s (steady .ready) c w (enough s) (suc (enough s)) a (omega arith, λ i. omega (arith, a .1 i))
+  -- No hit is left.
+  module _ (quiet : u .hit ≡ 0) where
+    pub runs-stepping : Stepping t u
+    runs-stepping = record { goes = runs .goes; none = quiet }
 
-  -- The run stands at u, and x comes next.
-  module _ {u : Scan} (runs : Runs t s u) (x : Next ℕ) (is : next (treeOf t u) (u .image) (configOf u) ≡ x) where
-    coming : next (treeOf t s) (s .image) (runs .config) ≡ x
-    coming =
-        sym (ap (λ u. next (treeOf t u) (u .image) (configOf u)) (runs .stands)
-        ∙ ap (next (treeOf t s) (s .image)) (moved-config t s (runs .config) (runs .within) false))
-        ∙ is
+    pub runs-over : Chosen t u Finished → Answers t s (record { state = u; answer = Done })
+    runs-over is = whole 0 quiet finished is
 
-    whole : onNext t s (enough s) (runs .config) x ≡ settle t s (enough s) (configOf s)
-    whole = ap (onNext t s (enough s) (runs .config)) (sym coming) ∙ sym (settle-next (runs .config) (runs .within)) ∙ runs .rest
+    pub runs-wants : (p : ℕ) → Chosen t u (Wants p) → Answers t s (record { state = awaiting u; answer = Fetch p })
+    runs-wants p is = whole 0 quiet (wants p) is
 
-  abbrev Answers : Result → Type 0
-  Answers a = steppedOf a ≡ settle t s (enough s) (configOf s)
+    -- A step w leads to r.
+    runs-on : (w : Step ℕ) → next (treeOf t u) (u .image) (configOf u) ≡ goes w → (r : Scan) → r ≡ stepped t u w → Onwards t s u r
+    runs-on w is r to =
+        let g = runs .goes in
+        let h : StepFor t u w = subst (WithinNext t (u .count) (u .image) (u .shortest) (configOf u)) is (next-within (g .ready) (configOf u) (g .within)) in (
+          record {
+            goes = subst (Goes t) (sym to) (step-goes t u g w h);
+            image = ap (λ r. r .image) to ∙ runs .image;
+            rest = ap (settle t (enough s)) to ∙ whole 0 quiet (goes w) is;
+          },
+          rw (to, ← runs .image) (h .less),
+        )
 
-  module _ {u : Scan} (runs : Runs t s u) where
-    pub runs-over : Chosen t u Finished → Answers (record { state = u; answer = Done })
-    runs-over is = ap (λ u. steppedOf (record { state = u; answer = Done })) (runs .stands) ∙ whole runs finished is
+    pub runs-ends : Chosen t u End → (r : Scan) → r ≡ stepped t u (endRound (treeOf t u) (configOf u) none) → Onwards t s u r
+    runs-ends is r to = runs-on _ is r to
 
-    pub runs-wants : (p : ℕ) → Chosen t u (Wants p) → Answers (record { state = waiting u; answer = Fetch p })
-    runs-wants p is = ap (λ u. steppedOf (record { state = waiting u; answer = Fetch p })) (runs .stands) ∙ whole runs (wants p) is
-
-    -- A step w, which leads to r: the run goes on, or answers with a hit.
-    module _ (w : Step ℕ) (is : next (treeOf t u) (u .image) (configOf u) ≡ goes w) (r : Scan) (to : r ≡ moved u (w .config) (u .due)) where
-      stands : r ≡ moved s (w .config) false
-      stands = to ∙ ap (λ u. moved u (w .config) (u .due)) (runs .stands)
-
-      runs-on : hitIn (w .events) ≡ noHit → Onwards t s u r
-      runs-on quiet =
-          let h = subst (NextFor t s (runs .config)) (coming runs (goes w) is) (next-within (steady .ready) (runs .config) (runs .within)) in (
-            record { config = w .config; stands = stands; within = h .within; rest = ap (onHit t s (enough s) w) (sym quiet) ∙ whole runs (goes w) is },
-            rw (stands, runs .stands) (h .less),
-          )
-
-      runs-hit : (b i : ℕ) → hitIn (w .events) ≡ hitOf b i → Answers (record { state = r; answer = Hit b i })
-      runs-hit b i h =
-          ap (λ z. steppedOf (record { state = z; answer = Hit b i })) stands ∙ ap (onHit t s (enough s) w) (sym h) ∙ whole runs (goes w) is
-
-    pub runs-ends : Chosen t u End → (r : Scan) → r ≡ moved u (endRound (treeOf t u) (configOf u) none .config) (u .due)
-        → Onwards t s u r
-    runs-ends is r to = runs-on _ is r to refl
-
-    module _ (x : ℕ) (is : Chosen t u (Take x)) (r : Taken) (q : r ≡ takenBy u (takeByte (treeOf t u) (configOf u) x)) where
-      pub takes-on : r .found ≡ On → Onwards t s u (r .state)
-      takes-on f = runs-on _ is (r .state) (ap (λ r. r .state) q) (not-heard _ (sym (ap (λ r. r .found) q) ∙ f))
-
-      pub takes-hit : (b i : ℕ) → r .found ≡ Found b i → Answers (record { state = r .state; answer = Hit b i })
-      takes-hit b i f = runs-hit _ is (r .state) (ap (λ r. r .state) q) b i (heard _ b i (sym (ap (λ r. r .found) q) ∙ f))
+    pub runs-takes : (x : ℕ) → Chosen t u (Take x) → (r : Scan) → r ≡ stepped t u (takeByte (treeOf t u) (configOf u) x) → Onwards t s u r
+    runs-takes x is r to = runs-on _ is r to

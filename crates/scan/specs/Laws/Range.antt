@@ -2,29 +2,28 @@
 use Prim.Native.Nat.{ℕ, _+_, _-_, _*_, _^_, _≤_, _<_, min}
 use native.Mathlib.Omega.{arith}
 use native.Mathlib.Nat.{mul-le-mul-left}
-use mathlib.Core.Path.{_≡_}
+use mathlib.Core.Path.{_≡_, sym, subst}
 use mathlib.Core.Bool.{Bool, true, false, _||_, not}
-use mathlib.Core.List.{List, [], _∷_}
+use mathlib.Core.List.{List}
 use mathlib.Core.Option.{some, none}
 use lib.ListN.{length}
 use Rattle.book.specs.Book.{maxBody, maxImage}
-use Rattle.rules.specs.Rules.{Stretch, Config, next}
+use Rattle.rules.specs.Rules.{Config, next}
 use Rattle.rules.specs.Sweep.{digits4, limit}
 use Rattle.rules.specs.Laws.Digits.{limit-mono, reached4}
-use Rattle.rules.specs.Laws.Limit.Span.{four-few, Spans, Upto, short}
+use Rattle.rules.specs.Laws.Limit.Span.{four-few, short}
 use Rattle.rules.specs.Laws.Image.{stretchesOf, stretches-length}
 use Rattle.tables.specs.Tables.{Tables}
 use Rattle.tables.specs.Walks.{ending, ofTables}
-use Rattle.tables.specs.Laws.Unbroken.{unbroken}
 use Rattle.scan.specs.Calls.{refused, outOfTurn, judged}
 use Rattle.scan.specs.declared.Scan.{Scan}
 use Rattle.scan.specs.State.{configOf, laid, maxStretches, wantsByte, inRange, maxSupplied}
-use Rattle.scan.specs.Laws.Walk.{Given, Sat}
-use Rattle.scan.specs.Laws.Within.{Ready, Within, moved-config, moved-range}
+use Rattle.scan.specs.Laws.Walk.{Given, given-ready, Sat, sat-within}
+use Rattle.scan.specs.Laws.Within.{Within, Left, moved-config, moved-slots, in-range}
 
--- The state after k bytes.
-abbrev pub stateAt : ℕ → ℕ → ℕ → Config ℕ → Bool → ℕ → Scan
-stateAt n S count c due k = record {
+-- The state after k bytes, with hits at this end left, that of node v next.
+abbrev pub stateAt : ℕ → ℕ → ℕ → Config ℕ → Bool → ℕ → ℕ → ℕ → Scan
+stateAt n S count c due k end v = record {
   image = n;
   shortest = S;
   count = count;
@@ -34,6 +33,8 @@ stateAt n S count c due k = record {
   due = due;
   stretches = laid maxStretches (c .stretches);
   supplied = k;
+  end = end;
+  hit = v;
 }
 
 limit-cap : (n D : ℕ) → 1 ≤ D → D ≤ maxBody → n ≤ maxImage → limit n D < maxSupplied
@@ -53,48 +54,23 @@ module _ {tokens : List (List ℕ)} {S D : ℕ} {t : Tables} {count n : ℕ} (gi
   pub sat-cap : (c : Config ℕ) (k : ℕ) → Sat given c k → k < maxSupplied
   sat-cap c k s = omega (arith, sat-below c k s, limit-cap n D (given .long) (given .short) (given .image))
 
-  -- Spans do not look at nodes.
-  own-spans : (b lo : ℕ) (ms : List (Stretch ℕ)) → Spans D b lo (stretchesOf (ending t) ms) → Spans maxBody b lo ms
-  own-spans b lo [] p = tt
-  own-spans b lo (m ∷ ms) p = (p .0, p .1, omega (arith, p .2, given .short), p .3, own-spans b (m .right) ms (p .4))
+  module _ (c : Config ℕ) (due : Bool) (k end v : ℕ) (s : Sat given c k) where
+    -- The state stands at its configuration.
+    pub stands : configOf (stateAt n S count c due k end v) ≡ c
+    stands = moved-config t (stateAt n S count c due k end v) c (sat-within given c k s)
 
-  own-upto : (ms : List (Stretch ℕ)) → Upto n (stretchesOf (ending t) ms) → Upto n ms
-  own-upto [] u = tt
-  own-upto (m ∷ ms) u = (u .0, own-upto ms (u .1))
+    module _ (w : (not due || wantsByte (next (ofTables t count S) n c)) ≡ true) (l : Left t count n S c due end v) where
+      sat-range : inRange t (stateAt n S count c due k end v) ≡ true
+      sat-range =
+          let st = stateAt n S count c due k end v in
+          let is = sym stands in
+          in-range t st (given-ready given) (omega (arith, sat-cap c k s)) (moved-slots t st c (sat-within given c k s))
+          (subst (Within t count n) is (sat-within given c k s))
+          (subst (λ c. (not due || wantsByte (next (ofTables t count S) n c)) ≡ true) is w)
+          (subst (λ c. Left t count n S c due end v) is l)
 
-  sat-within : (c : Config ℕ) (k : ℕ) → Sat given c k → Within t count n c
-  sat-within c k s = record {
-    node = s .apt .node;
-    held = record {
-      sized = s .apt .sized;
-      deep = omega (arith, s .fine .held .deep, given .short);
-      inside = s .fine .held .inside;
-      spans = own-spans (c .boundary) 0 (c .stretches) (s .fine .held .spans);
-    };
-    near = omega (arith, s .near);
-    fits = s .apt .stretches;
-    upto = own-upto (c .stretches) (s .fine .upto);
-  }
-
-  sat-ready : Ready t count n S
-  sat-ready = record {
-    tree = unbroken t count (given .represents .some-node) (given .represents .fine);
-    nodes = omega (arith, given .nodes);
-    image = given .image;
-    positive = given .setting .positive;
-    first = omega (arith, given .first);
-  }
-
-  -- The state stands at its configuration.
-  pub stands : (c : Config ℕ) (due : Bool) (k : ℕ) → Sat given c k → configOf (stateAt n S count c due k) ≡ c
-  stands c due k s = moved-config t (stateAt n S count c due k) c (sat-within c k s) due
-
-  module _ (c : Config ℕ) (due : Bool) (k : ℕ) (s : Sat given c k)
-      (w : (not due || wantsByte (next (ofTables t count S) n c)) ≡ true) where
-    sat-range : inRange t (stateAt n S count c due k) ≡ true
-    sat-range = moved-range t (stateAt n S count c due k) sat-ready (omega (arith, sat-cap c k s)) c (sat-within c k s) due w
-
-    -- A call is judged by its turn alone.
-    pub judged-turn : (turn : Bool)
-        → judged t (stateAt n S count c due k) turn ≡ elim (outOfTurn (stateAt n S count c due k) turn) [ true ↦ some (refused 11 0) | false ↦ none ]
-    judged-turn turn = cc (given .represents .fine, sat-range)
+      -- A call is judged by its turn alone.
+      pub judged-turn : (turn : Bool)
+          → judged t (stateAt n S count c due k end v) turn
+          ≡ elim (outOfTurn (stateAt n S count c due k end v) turn) [ true ↦ some (refused 11 0) | false ↦ none ]
+      judged-turn turn = cc (given .represents .fine, sat-range)

@@ -4,20 +4,23 @@ use native.Mathlib.Omega.{arith}
 use native.Mathlib.Nat.{mul-le-mul, lt-of-not-le}
 use mathlib.Core.Path.{_≡_, refl, ap, sym, subst, _∙_}
 use mathlib.Core.Bool.{Bool, true, false}
-use mathlib.Core.List.{List, [], _++_}
+use mathlib.Core.List.{List, [], _∷_, _++_}
 use mathlib.Core.Option.{Option, some, none}
 use borrow.Author.Tests.{lt-ltb}
+use lib.ListN.{getD}
 use Rattle.book.specs.Book.{maxBody}
-use Rattle.rules.specs.Rules.{Config, Event, Step, Next, finished, wants, goes, takeByte, next, follow, trace}
+use Rattle.rules.specs.Rules.{Config, Event, Step, Next, finished, wants, goes, hitAt, hitsUp, takeByte, next, follow, trace}
 use Rattle.rules.specs.Laws.Limit.Ends.{stepsLeft}
 use Rattle.tables.specs.Tables.{Tables}
-use Rattle.tables.specs.Walks.{ofTables}
-use Rattle.scan.specs.Calls.{Answer, fetch, found, over, refused, Stepped, Hit, noHit, hitOf, hitIn, moved, counted, settle, enough, carryOn, supply}
+use Rattle.tables.specs.Walks.{depth, carrier, ofTables}
+use Rattle.tables.specs.Laws.Shape.{up}
+use Rattle.tables.specs.Laws.Hits.{hitsFrom, deeper, hits-climb, Carries, carrier-carries}
+use Rattle.scan.specs.Calls.{Answer, fetch, found, over, refused, Stepped, counted, awaiting, told, firstHit, stepped, settle, enough, carryOn, supply}
 use Rattle.scan.specs.declared.Scan.{Scan}
-use Rattle.scan.specs.State.{wantsByte, maxSupplied}
+use Rattle.scan.specs.State.{configOf, treeOf, wantsByte, maxSupplied}
 use Rattle.scan.specs.Answers.{answers, isRefused, isFetch, first, later}
-use Rattle.scan.specs.Laws.Mild.{answered}
-use Rattle.scan.specs.Laws.Walk.{Given, Sat, SatStep, SatNext, next-sat}
+use Rattle.scan.specs.Laws.Within.{Ready, Pending, Left, owing-left}
+use Rattle.scan.specs.Laws.Walk.{Given, given-ready, Sat, SatStep, SatNext, next-sat}
 use Rattle.scan.specs.Laws.Range.{stateAt, sat-cap, stands, judged-turn}
 
 -- There are steps enough before the boundary has passed the image.
@@ -27,39 +30,73 @@ Enough n D c fuel = c .boundary ≤ n → stepsLeft n D (c .boundary) (c .depth)
 pub enough-steps : (n D : ℕ) → D ≤ maxBody → (c : Config ℕ) → Enough n D c ((n + 2) * (maxBody + 2))
 enough-steps n D h c i = omega (arith, mul-le-mul {n₁ = suc n - c .boundary} {m₁ = suc D} {n₂ = suc n} {m₂ = 1025} (omega arith) (omega arith))
 
--- Going on, by the hit of a step and by what comes next.
-abbrev pub onHit : Tables → Scan → ℕ → Step ℕ → Hit → Stepped
-onHit t s fuel w x = elim x [
-  | noHit ↦ settle t s fuel (w .config)
-  | hitOf e i ↦ record { state = moved s (w .config) false; answer = found e i }
+-- Going on, by what comes next, and by whether a hit is left.
+abbrev pub onNext : Tables → ℕ → Scan → Next ℕ → Stepped
+onNext t fuel s x = elim x [
+  | finished ↦ record { state = s; answer = over }
+  | wants at ↦ record { state = awaiting s; answer = fetch at }
+  | goes w ↦ settle t fuel (stepped t s w)
 ]
 
-abbrev pub onNext : Tables → Scan → ℕ → Config ℕ → Next ℕ → Stepped
-onNext t s fuel c x = elim x [
-  | finished ↦ record { state = moved s c false; answer = over }
-  | wants at ↦ record { state = moved s c true; answer = fetch at }
-  | goes w ↦ onHit t s fuel w (hitIn (w .events))
-]
+abbrev pub onLeft : Tables → ℕ → Scan → Next ℕ → ℕ → Stepped
+onLeft t fuel s x v = elim v [ zero ↦ onNext t fuel s x | suc w ↦ told t s ]
 
 -- A call, by how it is judged.
 abbrev pub onJudged : Scan → Stepped → Option Answer → Stepped
 onJudged s r j = elim j [ some a ↦ record { state = s; answer = a } | none ↦ r ]
 
 -- Going on is never refused.
-hit-plain : (t : Tables) (s : Scan) (fuel : ℕ) → ((c : Config ℕ) → isRefused (settle t s fuel c .answer) ≡ false)
-    → (w : Step ℕ) (x : Hit) → isRefused (onHit t s fuel w x .answer) ≡ false
-hit-plain t s fuel ih w noHit = ih (w .config)
-hit-plain t s fuel ih w (hitOf e i) = refl
+settle-plain : (t : Tables) (fuel : ℕ) (s : Scan) → isRefused (settle t fuel s .answer) ≡ false
+settle-plain t zero s = refl
+settle-plain t (suc fuel) s = go (s .hit) (next (treeOf t s) (s .image) (configOf s)) (settle-plain t fuel)
+  where
+    go : (v : ℕ) (x : Next ℕ) → ((s : Scan) → isRefused (settle t fuel s .answer) ≡ false)
+        → isRefused (onLeft t fuel s x v .answer) ≡ false
+    go zero finished ih = refl
+    go zero (wants at) ih = refl
+    go zero (goes w) ih = ih (stepped t s w)
+    go (suc v) x ih = refl
 
-next-plain : (t : Tables) (s : Scan) (fuel : ℕ) → ((c : Config ℕ) → isRefused (settle t s fuel c .answer) ≡ false)
-    → (c : Config ℕ) (x : Next ℕ) → isRefused (onNext t s fuel c x .answer) ≡ false
-next-plain t s fuel ih c finished = refl
-next-plain t s fuel ih c (wants at) = refl
-next-plain t s fuel ih c (goes w) = hit-plain t s fuel ih w (hitIn (w .events))
+-- The end plays no part where no hit is left.
+owing-hits : (t : Tables) (count S end v : ℕ)
+    → hitsUp (ofTables t count S) (elim v [ zero ↦ 0 | suc w ↦ end ]) v (depth t v) ≡ hitsUp (ofTables t count S) end v (depth t v)
+owing-hits t count S end zero = refl
+owing-hits t count S end (suc v) = refl
 
-settle-plain : (t : Tables) (s : Scan) (fuel : ℕ) (c : Config ℕ) → isRefused (settle t s fuel c .answer) ≡ false
-settle-plain t s zero c = refl
-settle-plain t s (suc fuel) c = next-plain t s fuel (settle-plain t s fuel) c (next (ofTables t (s .count) (s .shortest)) (s .image) c)
+-- A hit that is left comes first, and after it those from the nearest node above that carries a token; these are in range too.
+module _ {t : Tables} {count n S : ℕ} (ready : Ready t count n S) {c : Config ℕ} {end v : ℕ} (a : 0 < v) (p : Pending t count n S c end v) where
+  abbrev above : ℕ
+  above = carrier t (up t v)
+
+  falls : up t v < v
+  falls = ready .tree .falling .ups v a (p .below)
+
+  above-carries : Carries t count (ready .tree .falling) S end (up t v) above
+  above-carries = carrier-carries t count (ready .tree .falling) S end (up t v) (omega (arith, falls, p .below))
+
+  pub first-told : (rest : List (Event ℕ)) → let tree = ofTables t count S in
+      answers (hitsUp tree end v (depth t v) ++ rest) ≡ found end (getD (t .token) v 0) ∷ answers (hitsUp tree end above (depth t above) ++ rest)
+  first-told rest =
+      let f = ready .tree .falling in
+      ap (λ es. answers (es ++ rest)) (hits-climb t count f S end v a (p .below))
+      ∙ go (getD (t .token) v 0) (p .marked) (hitsFrom t count f S end (up t v))
+      ∙ ap (λ es. found end (getD (t .token) v 0) ∷ answers (es ++ rest)) (above-carries .same)
+    where
+      go : (i : ℕ) → 1 ≤ i → (es : List (Event ℕ)) → answers ((hitAt end i ++ es) ++ rest) ≡ found end i ∷ answers (es ++ rest)
+      go zero h es = absurd (omega arith)
+      go (suc i) h es = refl
+
+  pub above-pending : 0 < above → Pending t count n S c end above
+  above-pending b = record {
+    below = omega (arith, above-carries .below, falls, p .below);
+    marked = above-carries .marked b;
+    deep = omega (arith, above-carries .deep, deeper t count (ready .tree .falling) S end v a (p .below), p .deep);
+    inside = p .inside;
+    before = p .before;
+    near = p .near;
+    root = p .root;
+    upto = p .upto;
+  }
 
 module _ {tokens : List (List ℕ)} {S D : ℕ} {t : Tables} {count n : ℕ} (given : Given tokens S D t count n) (ask : ℕ → ℕ → ℕ) where
   -- What happens from a configuration on, after k bytes.
@@ -70,10 +107,14 @@ module _ {tokens : List (List ℕ)} {S D : ℕ} {t : Tables} {count n : ℕ} (gi
   abbrev fed : ℕ → ℕ → Config ℕ → Step ℕ
   fed k at c = takeByte (ofTables t count S) c (ask k at)
 
-  -- The answers to come at a configuration: if a byte is due, those after it is taken.
-  abbrev pub Todo : ℕ → Bool → Config ℕ → List Answer → Type 0
-  Todo k false c todo = (fuel : ℕ) × Enough n D c fuel × (todo ≡ answers (run fuel k c))
-  Todo k true c todo =
+  -- The answers to come where the hits of node v with this end are left.
+  abbrev pub left : ℕ → ℕ → List (Event ℕ) → List Answer
+  left end v rest = answers (hitsUp (ofTables t count S) end v (depth t v) ++ rest)
+
+  -- The answers to come at a configuration: those of the hits that are left, and then; if a byte is due, those after it is taken.
+  abbrev pub Todo : ℕ → Bool → Config ℕ → ℕ → ℕ → List Answer → Type 0
+  Todo k false c end v todo = (fuel : ℕ) × Enough n D c fuel × (todo ≡ left end v (run fuel k c))
+  Todo k true c end v todo =
       (at : ℕ) × (fuel : ℕ) × (next (ofTables t count S) n c ≡ wants at)
       × Enough n D (fed k at c .config) fuel × (todo ≡ answers (fed k at c .events ++ run fuel (k + 1) (fed k at c .config)))
 
@@ -81,117 +122,151 @@ module _ {tokens : List (List ℕ)} {S D : ℕ} {t : Tables} {count n : ℕ} (gi
   none-wanted : (a : Answer) (c : Config ℕ) → isFetch a ≡ false → (p : ℕ) → a ≡ fetch p → next (ofTables t count S) n c ≡ wants p
   none-wanted a c e p q = absurd (let z : _≡_ {A = ℕ} 0 1 = cc in omega arith)
 
-  nothing-left : (k : ℕ) (c : Config ℕ) → n < c .boundary → Todo k false c []
-  unfolding trace
-  nothing-left k c h = (0, λ i. absurd (omega arith), refl)
-
   -- A call that leaves k bytes taken answers the first of `todo`, and the others are still to come.
   pub record Settled (k : ℕ) (todo : List Answer) (r : Stepped) : Type 0 where
     pub config : Config ℕ
     pub due : Bool
-    pub is : r ≡ record { state = stateAt n S count config due k; answer = first todo }
+    pub end : ℕ
+    pub hit : ℕ
+    pub is : r ≡ record { state = stateAt n S count config due k end hit; answer = first todo }
     pub sat : Sat given config k
-    pub rest : Todo k due config (later todo)
+    pub owes : Left t count n S config due end hit
+    pub rest : Todo k due config end hit (later todo)
     pub turn : isFetch (first todo) ≡ due
     pub wanted : (p : ℕ) → first todo ≡ fetch p → next (ofTables t count S) n config ≡ wants p
 
-  module _ (c₀ : Config ℕ) (due₀ : Bool) (k : ℕ) where
-    -- Going on from configurations with steps enough settles.
+  module _ (k : ℕ) where
+    -- Going on from states with steps enough settles.
     abbrev Settles : ℕ → Type 0
-    Settles fuel = (f : ℕ) (c : Config ℕ) → Sat given c k → 1 ≤ fuel → Enough n D c fuel → Enough n D c f
-        → Settled k (answers (run f k c)) (settle t (stateAt n S count c₀ due₀ k) fuel c)
+    Settles fuel = (f : ℕ) (c : Config ℕ) (end v : ℕ) → Sat given c k → Left t count n S c false end v → 1 ≤ fuel → Enough n D c fuel
+        → Enough n D c f → Settled k (left end v (run f k c)) (settle t fuel (stateAt n S count c false k end v))
 
-    -- After a step, with its hit or without.
-    step-settles : (fuel f : ℕ) (c : Config ℕ) (w : Step ℕ) → SatStep given c k w → Settles fuel
+    -- A hit that is left is answered.
+    told-settles : (f : ℕ) (c : Config ℕ) (end v : ℕ) → Sat given c k → 0 < v → Pending t count n S c end v → Enough n D c f
+        → Settled k (left end v (run f k c)) (told t (stateAt n S count c false k end v))
+    told-settles f c end v s a p h =
+        let ready = given-ready given in
+        let w = carrier t (up t v) in
+        subst (λ todo. Settled k todo (told t (stateAt n S count c false k end v))) (sym (first-told ready a p (run f k c)))
+        (record {
+          config = c;
+          due = false;
+          end = elim w [ zero ↦ 0 | suc u ↦ end ];
+          hit = w;
+          is = refl;
+          sat = s;
+          owes = owing-left t count n S c false refl end w (above-pending ready a p);
+          rest = (f, h, ap (λ es. answers (es ++ run f k c)) (sym (owing-hits t count S end w)));
+          turn = refl;
+          wanted = none-wanted (found end (getD (t .token) v 0)) c refl;
+        })
+
+    -- The boundary has passed the image, and no hit is left.
+    over-settles : (c : Config ℕ) (end : ℕ) → Sat given c k → Left t count n S c false end 0 → n < c .boundary
+        → (todo : List Answer) → first todo ≡ over → later todo ≡ []
+        → Settled k todo (record { state = stateAt n S count c false k end 0; answer = over })
+    unfolding trace
+    over-settles c end s l h todo e f = record {
+      config = c;
+      due = false;
+      end = end;
+      hit = 0;
+      is = cc e;
+      sat = s;
+      owes = l;
+      rest = (0, (λ i. absurd (omega arith)), f);
+      turn = ap isFetch e;
+      wanted = none-wanted (first todo) c (ap isFetch e);
+    }
+
+    -- After a step its hits are left.
+    step-settles : (fuel f : ℕ) (c : Config ℕ) (end : ℕ) (w : Step ℕ) → SatStep given c k w → Settles fuel
         → 1 ≤ fuel → Enough n D (w .config) fuel → Enough n D (w .config) f
-        → Settled k (answers (w .events ++ run f k (w .config))) (onHit t (stateAt n S count c₀ due₀ k) fuel w (hitIn (w .events)))
-    step-settles fuel f c w s ih l g h =
-        subst (λ todo. Settled k todo (onHit t (stateAt n S count c₀ due₀ k) fuel w (hitIn (w .events))))
-        (sym (s .quiet (run f k (w .config)))) (go (hitIn (w .events)))
-      where
-        go : (x : Hit) → Settled k (answered x (answers (run f k (w .config)))) (onHit t (stateAt n S count c₀ due₀ k) fuel w x)
-        go noHit = ih f (w .config) (s .sat) l g h
-        go (hitOf e i) = record { config = w .config; due = false; is = refl; sat = s .sat; rest = (f, h, refl); turn = refl; wanted = none-wanted (found e i) (w .config) refl }
+        → Settled k (answers (w .events ++ run f k (w .config))) (settle t fuel (stepped t (stateAt n S count c false k end 0) w))
+    step-settles fuel f c end w s ih l g h =
+        let v = firstHit t (c .node) (w .events) in
+        subst (λ todo. Settled k todo (settle t fuel (stepped t (stateAt n S count c false k end 0) w)))
+        (ap (λ es. answers (es ++ run f k (w .config))) (owing-hits t count S (c .boundary) v) ∙ sym (s .leaves .heard (run f k (w .config))))
+        (ih f (w .config) (elim v [ zero ↦ 0 | suc u ↦ c .boundary ]) v (s .sat)
+        (owing-left t count n S (w .config) false refl (c .boundary) v (s .leaves .pending)) l g h)
 
-    next-settles : (fuel f : ℕ) (c : Config ℕ) → Sat given c k → Settles fuel
+    next-settles : (fuel f : ℕ) (c : Config ℕ) (end : ℕ) → Sat given c k → Left t count n S c false end 0 → Settles fuel
         → Enough n D c (suc fuel) → Enough n D c (suc f) → (x : Next ℕ) → next (ofTables t count S) n c ≡ x → SatNext given c k x
-        → Settled k (answers (follow (ofTables t count S) ask (run f) k c x)) (onNext t (stateAt n S count c₀ due₀ k) fuel c x)
-    next-settles fuel f c s ih g h finished e x =
-        record { config = c; due = false; is = refl; sat = s; rest = nothing-left k c x; turn = refl; wanted = none-wanted over c refl }
-    next-settles fuel f c s ih g h (wants at) e x =
+        → Settled k (answers (follow (ofTables t count S) ask (run f) k c x)) (onNext t fuel (stateAt n S count c false k end 0) x)
+    next-settles fuel f c end s l ih g h finished e x = over-settles c end s l x (over ∷ []) refl refl
+    next-settles fuel f c end s l ih g h (wants at) e x =
         let w = x (ask k at) in
         record {
           config = c;
           due = true;
+          end = end;
+          hit = 0;
           is = refl;
           sat = s;
+          owes = record { none = l .none; some = l .some; idle = λ a. absurd (omega arith) };
           rest = (at, f, e, λ i. omega (arith, h (w .early), w .less), refl);
           turn = refl;
           wanted = λ p q. let z : at ≡ p = cc in cc;
         }
-    next-settles fuel f c s ih g h (goes w) e x =
+    next-settles fuel f c end s l ih g h (goes w) e x =
         let a = g (x .early) in
         let b = h (x .early) in
-        step-settles fuel f c w x ih (omega (arith, x .less)) (λ _. omega (arith, x .less)) (λ _. omega (arith, x .less))
-
-    over-settles : (fuel : ℕ) (c : Config ℕ) → Sat given c k → n < c .boundary
-        → (x : Next ℕ) → finished ≡ x → Settled k [] (onNext t (stateAt n S count c₀ due₀ k) fuel c x)
-    over-settles fuel c s h x e =
-        subst (λ x. Settled k [] (onNext t (stateAt n S count c₀ due₀ k) fuel c x)) e
-        (record { config = c; due = false; is = refl; sat = s; rest = nothing-left k c h; turn = refl; wanted = none-wanted over c refl })
+        step-settles fuel f c end w x ih (omega (arith, x .less)) (λ _. omega (arith, x .less)) (λ _. omega (arith, x .less))
 
     settle-settles : (fuel : ℕ) → Settles fuel
     unfolding trace
-    settle-settles zero f c s l g h = absurd (omega arith)
-    settle-settles (suc fuel) zero c s l g h =
+    settle-settles zero f c end v s l i g h = absurd (omega arith)
+    settle-settles (suc fuel) f c end (suc v) s l i g h = told-settles f c end (suc v) s (omega arith) (l .some (omega arith)) h
+    settle-settles (suc fuel) zero c end zero s l i g h =
         let p : n < c .boundary = lt-of-not-le (λ i. omega (arith, h i)) in
-        over-settles fuel c s p (next (ofTables t count S) n c) (sym (cc (lt-ltb n (c .boundary) p)))
-    settle-settles (suc fuel) (suc f) c s l g h =
-        next-settles fuel f c s (settle-settles fuel) g h (next (ofTables t count S) n c) refl (next-sat given c k s)
+        let done : next (ofTables t count S) n (configOf (stateAt n S count c false k end 0)) ≡ finished = cc (lt-ltb n (c .boundary) p) in
+        subst (λ x. Settled k [] (onNext t fuel (stateAt n S count c false k end 0) x)) (sym done) (over-settles c end s l p [] refl refl)
+    settle-settles (suc fuel) (suc f) c end zero s l i g h =
+        subst (λ d. Settled k (answers (run (suc f) k c)) (onNext t fuel (stateAt n S count c false k end 0) (next (ofTables t count S) n d)))
+        (sym (stands given c false k end 0 s))
+        (next-settles fuel f c end s l (settle-settles fuel) g h (next (ofTables t count S) n c) refl (next-sat given c k s))
 
-  module _ (c : Config ℕ) (k : ℕ) (s : Sat given c k) where
+  module _ (c : Config ℕ) (k end v : ℕ) (s : Sat given c k) where
     -- A call out of turn changes nothing.
-    pub carry-refused : (todo : List Answer) → Todo k true c todo
-        → carryOn t (stateAt n S count c true k) ≡ record { state = stateAt n S count c true k; answer = refused 11 0 }
-    carry-refused todo h = ap (onJudged _ _) (judged-turn given c true k s (ap wantsByte (h .2)) false)
+    pub carry-refused : (todo : List Answer) → Todo k true c end v todo → Left t count n S c true end v
+        → carryOn t (stateAt n S count c true k end v) ≡ record { state = stateAt n S count c true k end v; answer = refused 11 0 }
+    carry-refused todo h l = ap (onJudged _ _) (judged-turn given c true k end v s (ap wantsByte (h .2)) l false)
 
-    pub supply-refused : (x : ℕ) → supply t (stateAt n S count c false k) x ≡ record { state = stateAt n S count c false k; answer = refused 11 0 }
-    supply-refused x = ap (onJudged _ _) (judged-turn given c false k s refl true)
+    pub supply-refused : (x : ℕ) → Left t count n S c false end v
+        → supply t (stateAt n S count c false k end v) x ≡ record { state = stateAt n S count c false k end v; answer = refused 11 0 }
+    supply-refused x l = ap (onJudged _ _) (judged-turn given c false k end v s refl l true)
 
     -- A call in turn settles.
-    pub carry-settles : (todo : List Answer) → Todo k false c todo → Settled k todo (carryOn t (stateAt n S count c false k))
-    carry-settles todo h =
-        let st = stateAt n S count c false k in
-        let is : carryOn t st ≡ settle t st (enough st) c =
-        ap (onJudged _ _) (judged-turn given c false k s refl false) ∙ ap (settle t st (enough st)) (stands given c false k s) in
-        subst (Settled k todo) (sym is) (subst (λ todo. Settled k todo (settle t st (enough st) c)) (sym (h .2))
-        (settle-settles c false k (enough st) (h .0) c s (omega arith) (enough-steps n D (given .short) c) (h .1)))
+    pub carry-settles : (todo : List Answer) → Todo k false c end v todo → Left t count n S c false end v
+        → Settled k todo (carryOn t (stateAt n S count c false k end v))
+    carry-settles todo h l =
+        let st = stateAt n S count c false k end v in
+        let is : carryOn t st ≡ settle t (enough st) st = ap (onJudged _ _) (judged-turn given c false k end v s refl l false) in
+        subst (Settled k todo) (sym is) (subst (λ todo. Settled k todo (settle t (enough st) st)) (sym (h .2))
+        (settle-settles k (enough st) (h .0) c end v s l (omega arith) (enough-steps n D (given .short) c) (h .1)))
 
-    module _ (todo : List Answer) (h : Todo k true c todo) where
-      supply-is : (x : ℕ) → let w = takeByte (ofTables t count S) c x in
-          supply t (stateAt n S count c true k) x ≡ onHit t (stateAt n S count c false (k + 1)) ((n + 2) * (maxBody + 2)) w (hitIn (w .events))
+    module _ (todo : List Answer) (h : Todo k true c end v todo) (l : Left t count n S c true end v) where
+      -- the state that the byte leads to
+      abbrev fedTo : ℕ → Scan
+      fedTo x = stepped t (stateAt n S count c false (k + 1) end v) (takeByte (ofTables t count S) c x)
+
+      supply-is : (x : ℕ) → supply t (stateAt n S count c true k end v) x ≡ settle t ((n + 2) * (maxBody + 2)) (fedTo x)
       supply-is x =
-          let st = stateAt n S count c true k in
-          let w = takeByte (ofTables t count S) c x in
-          let go : Config ℕ → Stepped = λ c. (let w = takeByte (ofTables t count S) c x in onHit t (counted st) (enough st) w (hitIn (w .events))) in
+          let st = stateAt n S count c true k end v in
+          let go : Config ℕ → Stepped = λ c. settle t (enough st) (stepped t (counted st) (takeByte (ofTables t count S) c x)) in
           let is : supply t st x ≡ go c =
-          ap (onJudged _ _) (judged-turn given c true k s (ap wantsByte (h .2)) true) ∙ ap go (stands given c true k s) in
+          ap (onJudged _ _) (judged-turn given c true k end v s (ap wantsByte (h .2)) l true) ∙ ap go (stands given c true k end v s) in
           let m : min maxSupplied (k + 1) ≡ k + 1 = omega (arith, sat-cap given c k s) in
-          is ∙ ap (λ m. onHit t (stateAt n S count c false m) (enough st) w (hitIn (w .events))) m
+          is ∙ ap (λ m. settle t (enough st) (stepped t (stateAt n S count c false m end v) (takeByte (ofTables t count S) c x))) m
 
-      pub supply-plain : (x : ℕ) → isRefused (supply t (stateAt n S count c true k) x .answer) ≡ false
-      supply-plain x =
-          let st = stateAt n S count c false (k + 1) in
-          let w = takeByte (ofTables t count S) c x in
-          ap (λ r. isRefused (r .answer)) (supply-is x)
-          ∙ hit-plain t st ((n + 2) * (maxBody + 2)) (settle-plain t st ((n + 2) * (maxBody + 2))) w (hitIn (w .events))
+      pub supply-plain : (x : ℕ) → isRefused (supply t (stateAt n S count c true k end v) x .answer) ≡ false
+      supply-plain x = ap (λ r. isRefused (r .answer)) (supply-is x) ∙ settle-plain t ((n + 2) * (maxBody + 2)) (fedTo x)
 
-      pub supply-settles : Settled (k + 1) todo (supply t (stateAt n S count c true k) (ask k (h .0)))
+      pub supply-settles : Settled (k + 1) todo (supply t (stateAt n S count c true k end v) (ask k (h .0)))
       supply-settles =
           let x = ask k (h .0) in
           let w = fed k (h .0) c in
+          let fuel = (n + 2) * (maxBody + 2) in
           let z : SatStep given c (k + 1) w = subst (SatNext given c k) (h .2) (next-sat given c k s) x in
-          let r = onHit t (stateAt n S count c false (k + 1)) ((n + 2) * (maxBody + 2)) w (hitIn (w .events)) in
-          subst (Settled (k + 1) todo) (sym (supply-is x)) (subst (λ todo. Settled (k + 1) todo r) (sym (h .4))
-          (step-settles c false (k + 1) ((n + 2) * (maxBody + 2)) (h .1) c w z (settle-settles c false (k + 1) ((n + 2) * (maxBody + 2))) (omega arith)
-          (enough-steps n D (given .short) (w .config)) (h .3)))
+          subst (Settled (k + 1) todo) (sym (supply-is x)) (subst (λ todo. Settled (k + 1) todo (settle t fuel (fedTo x))) (sym (h .4))
+          (step-settles (k + 1) fuel (h .1) c end w z (settle-settles (k + 1) fuel) (omega arith) (enough-steps n D (given .short) (w .config)) (h .3)))

@@ -3,26 +3,28 @@ use Prim.Native.Nat.{ℕ, suc, _+_, _≤_, _<_}
 use native.Mathlib.Numerals.{add-one}
 use native.Mathlib.Omega.{arith}
 use mathlib.Core.Path.{_≡_, refl, subst}
-use mathlib.Core.List.{List, _++_}
+use mathlib.Core.Bool.{false}
+use mathlib.Core.List.{List, [], _∷_}
 use mathlib.Core.Option.{Option, some, none}
 use lib.ListN.{length, length-drop}
 use Rattle.book.specs.Book.{maxBody, maxBodies, maxImage}
-use Rattle.rules.specs.Rules.{Config, Event, Step, Next, finished, wants, goes, fresh, takeByte, next}
+use Rattle.rules.specs.Rules.{Stretch, Config, Event, fetched, recalled, hit, shifted, done, Step, Next, finished, wants, goes, fresh, takeByte, next}
 use Rattle.rules.specs.Tokens.{grown, ofTokens}
 use Rattle.rules.specs.Laws.Setting.{Setting}
 use Rattle.rules.specs.Laws.Limit.{Fine, FineStep, FineNext, next-fine, fresh-fine}
 use Rattle.rules.specs.Laws.Limit.Ends.{stepsLeft, Finite}
-use Rattle.rules.specs.Laws.Exact.Shift.{shift-upto}
+use Rattle.rules.specs.Laws.Limit.Span.{Spans, Upto}
 use Rattle.rules.specs.Laws.Exact.{tokens-finite}
-use Rattle.rules.specs.Laws.Image.{configOf, nextOf, stepOf}
+use Rattle.rules.specs.Laws.Image.{stretchesOf, configOf, eventsOf, nextOf, stepOf}
 use Rattle.rules.specs.Laws.Alike.{Both, Alike, Apt, AptNext, take-same, take-apt, next-same, next-apt}
 use Rattle.tables.specs.Tables.{Tables}
-use Rattle.tables.specs.Walks.{childBy, ending, words, ofTables}
+use Rattle.tables.specs.Walks.{childBy, ending, ofTables}
 use Rattle.tables.specs.Laws.Nodes.{Stand}
 use Rattle.tables.specs.Laws.Represents.{Represents}
+use Rattle.tables.specs.Laws.Unbroken.{unbroken}
 use Rattle.scan.specs.Answers.{answers}
-use Rattle.scan.specs.Calls.{hitIn}
-use Rattle.scan.specs.Laws.Mild.{answered, Mild, MildNext, next-mild}
+use Rattle.scan.specs.Laws.Within.{Ready, Within, Left}
+use Rattle.scan.specs.Laws.Stay.{Leaves, WithinStep, WithinNext, next-within}
 
 -- The tables' tree and the tokens' are alike.
 tables-alike : (tokens : List (List ℕ)) (S D : ℕ) → Setting tokens S D → (t : Tables) (count : ℕ) → Represents t count tokens
@@ -65,18 +67,52 @@ module _ {tokens : List (List ℕ)} {S D : ℕ} {t : Tables} {count n : ℕ} (gi
   pub finite : Finite (ofTokens tokens S) length D
   finite = tokens-finite tokens S D (given .setting)
 
+  -- What no step changes.
+  pub given-ready : Ready t count n S
+  given-ready = record {
+    tree = unbroken t count (given .represents .some-node) (given .represents .fine);
+    nodes = omega (arith, given .nodes);
+    image = given .image;
+    positive = given .setting .positive;
+    first = omega (arith, given .first);
+  }
+
   -- A configuration that the calls come to after k bytes.
   pub record Sat (c : Config ℕ) (k : ℕ) : Type 0 where
     pub apt : Apt alike c
     pub fine : Fine length D S n (configOf (ending t) c) k
     pub near : c .boundary ≤ n + maxBody
 
+  -- Spans do not look at nodes.
+  own-spans : (b lo : ℕ) (ms : List (Stretch ℕ)) → Spans D b lo (stretchesOf (ending t) ms) → Spans maxBody b lo ms
+  own-spans b lo [] p = tt
+  own-spans b lo (m ∷ ms) p = (p .0, p .1, omega (arith, p .2, given .short), p .3, own-spans b (m .right) ms (p .4))
+
+  own-upto : (ms : List (Stretch ℕ)) → Upto n (stretchesOf (ending t) ms) → Upto n ms
+  own-upto [] u = tt
+  own-upto (m ∷ ms) u = (u .0, own-upto ms (u .1))
+
+  -- It is in range.
+  pub sat-within : (c : Config ℕ) (k : ℕ) → Sat c k → Within t count n c
+  sat-within c k s = record {
+    node = s .apt .node;
+    held = record {
+      sized = s .apt .sized;
+      deep = omega (arith, s .fine .held .deep, given .short);
+      inside = s .fine .held .inside;
+      spans = own-spans (c .boundary) 0 (c .stretches) (s .fine .held .spans);
+    };
+    near = omega (arith, s .near);
+    fits = s .apt .stretches;
+    upto = own-upto (c .stretches) (s .fine .upto);
+  }
+
   -- A step from c that ends after k bytes.
   pub record SatStep (c : Config ℕ) (k : ℕ) (w : Step ℕ) : Type 0 where
     pub sat : Sat (w .config) k
     pub early : c .boundary ≤ n
     pub less : stepsLeft n D (w .config .boundary) (w .config .depth) < stepsLeft n D (c .boundary) (c .depth)
-    pub quiet : (rest : List (Event ℕ)) → answers (w .events ++ rest) ≡ answered (hitIn (w .events)) (answers rest)
+    pub leaves : Leaves t count n S c w
 
   abbrev pub SatNext : Config ℕ → ℕ → Next ℕ → Type 0
   SatNext c k finished = n < c .boundary
@@ -85,17 +121,17 @@ module _ {tokens : List (List ℕ)} {S D : ℕ} {t : Tables} {count n : ℕ} (gi
 
   module _ (c : Config ℕ) (k : ℕ) (sat : Sat c k) where
     step-sat : (w : Step ℕ) (m : ℕ) → Apt alike (w .config)
-        → FineStep length D S n (configOf (ending t) c) m (stepOf (ending t) w) → Mild n S c w → SatStep c m w
+        → FineStep length D S n (configOf (ending t) c) m (stepOf (ending t) w) → WithinStep t count n S c w → SatStep c m w
     step-sat w m a f g = record {
-      sat = record { apt = a; fine = f .fine; near = omega (arith, g .near, given .first) };
+      sat = record { apt = a; fine = f .fine; near = g .within .near };
       early = g .early;
       less = f .less;
-      quiet = g .quiet;
+      leaves = g .leaves;
     }
 
     cases : (x : Next ℕ) → AptNext alike c (sat .apt) x
         → FineNext (ofTokens tokens S) length D S n (configOf (ending t) c) k (nextOf (ending t) x)
-        → MildNext (ofTables t count S) n S c x → SatNext c k x
+        → WithinNext t count n S c x → SatNext c k x
     cases finished a f g = f
     cases (wants at) a f g = λ x.
         rw (add-one k) (step-sat _ (suc k) (take-apt alike c (sat .apt) x)
@@ -109,7 +145,7 @@ module _ {tokens : List (List ℕ)} {S D : ℕ} {t : Tables} {count n : ℕ} (gi
         (subst (FineNext (ofTokens tokens S) length D S n (configOf (ending t) c) k)
         (next-same alike c (sat .apt) n)
         (next-fine (ofTokens tokens S) length D S finite (given .long) (given .setting .positive) n k (configOf (ending t) c) (sat .fine)))
-        (next-mild (ofTables t count S) n S (λ v. shift-upto (words t count) S (given .setting .positive) (ending t v)) c)
+        (next-within given-ready c (sat-within c k sat))
 
   pub fresh-sat : Sat (fresh (ofTables t count S) S) 0
   fresh-sat = record {
@@ -117,3 +153,15 @@ module _ {tokens : List (List ℕ)} {S D : ℕ} {t : Tables} {count n : ℕ} (gi
     fine = fresh-fine (ofTokens tokens S) length D S finite (given .long) (given .setting .positive) n;
     near = omega (arith, given .first);
   }
+
+  pub fresh-left : Left t count n S (fresh (ofTables t count S) S) false 0 0
+  fresh-left = record { none = λ _. refl; some = λ a. absurd (omega arith); idle = λ _. refl }
+
+-- The calls' answers do not show nodes.
+pub events-answers : {E F : Type 0} (f : E → F) (es : List (Event E)) → answers (eventsOf f es) ≡ answers es
+events-answers f [] = refl
+events-answers f (fetched p ∷ es) = cc (events-answers f es)
+events-answers f (recalled p ∷ es) = events-answers f es
+events-answers f (hit e i ∷ es) = cc (events-answers f es)
+events-answers f (shifted b ss ∷ es) = events-answers f es
+events-answers f (done ∷ es) = refl

@@ -7,9 +7,9 @@ use borrow.Author.Tests.{ne-eqb}
 use lib.ListN.{getD, length}
 use Rattle.rules.specs.Laws.Tests.{split}
 use Rattle.tables.specs.Tables.{Tables}
-use Rattle.tables.specs.Walks.{climb, ending, depth, words, lifted}
+use Rattle.tables.specs.Walks.{climb, ending, depth, nearest, carrier, words, lifted}
 use Rattle.tables.specs.Laws.Unbroken.{Unbroken}
-use Rattle.scan.specs.Ways.{paths, Rises, Readable, Spells}
+use Rattle.scan.specs.Ways.{paths, Rises, Marked, Readable, Spells}
 
 -- the tokens with node v's too
 abbrev more : ℕ → List ℕ → List (List ℕ) → List (List ℕ)
@@ -28,6 +28,14 @@ module _ (t u : Tables) (up : t .parent ≡ u .parent) where
 
   pub depth-alike : (v : ℕ) → depth t v ≡ depth u v
   depth-alike v = climb-long v v
+
+  module _ (num : t .token ≡ u .token) where
+    nearest-alike : (f v : ℕ) → nearest t f v ≡ nearest u f v
+    nearest-alike zero v = refl
+    nearest-alike (suc f) v = cc (nearest-alike f (getD (t .parent) v 0))
+
+    pub carrier-alike : (v : ℕ) → carrier t v ≡ carrier u v
+    carrier-alike v = nearest-alike v v
 
   module _ (tag : t .label ≡ u .label) where
     climb-alike : (f v : ℕ) → climb t f v ≡ climb u f v
@@ -62,3 +70,7 @@ unbroken-readable t count u = record {
   tokens = omega (arith, u .held);
   deep = λ v h. rw (ending-alike (paths (t .parent) (t .label)) t refl refl v) (u .deep v h);
 }
+
+pub unbroken-marked : (t : Tables) (count v : ℕ) → Unbroken t count → v < count → Marked (t .parent) (t .token) v
+unbroken-marked t count v u h =
+    record { count = count; rises = unbroken-rises t count u; below = h; tokens = omega (arith, u .held) }

@@ -1,15 +1,15 @@
 -- A state in its ranges, as propositions: what the tests of refusal 10 say, over any tables that pass refusal 9.
-use Prim.Native.Nat.{ℕ, _-_, _*_, _≤_, _<_}
+use Prim.Native.Nat.{ℕ, zero, suc, _+_, _-_, _*_, _≤_, _<_}
 use native.Mathlib.Omega.{arith}
 use mathlib.Core.Path.{_≡_, refl, ap, sym, subst, _∙_}
-use mathlib.Core.Bool.{Bool, true, _||_, not}
+use mathlib.Core.Bool.{Bool, true, false, _&&_, not}
 use mathlib.Core.List.{List, [], _∷_}
 use mathlib.Core.Option.{none}
-use borrow.Author.Tests.{lt-ltb, le-leb, eq-eqb, ltb-true, leb-true, eqb-true}
+use borrow.Author.Tests.{lt-ltb, le-leb, eq-eqb, ne-eqb, ltb-true, leb-true, eqb-true, eqb-false, not-true}
 use lib.Dec.{leb, ltb, eqb}
-use lib.ListN.{length}
-use Rattle.rules.specs.Rules.{Stretch, Config, kept, next}
-use Rattle.rules.specs.Laws.Tests.{passed}
+use lib.ListN.{length, getD}
+use Rattle.rules.specs.Rules.{Stretch, Config, kept}
+use Rattle.rules.specs.Laws.Tests.{and-l, and-r, passed}
 use Rattle.rules.specs.Laws.All.{All}
 use Rattle.rules.specs.Laws.Limit.{Held}
 use Rattle.rules.specs.Laws.Limit.Span.{four-few, Spans, Upto, short}
@@ -19,8 +19,8 @@ use Rattle.tables.specs.Walks.{depth}
 use Rattle.tables.specs.Broken.{broken}
 use Rattle.tables.specs.Laws.Unbroken.{Unbroken, unbroken}
 use Rattle.scan.specs.declared.Scan.{Scan}
-use Rattle.scan.specs.State.{configOf, used, laid, slotsOk, wantsByte, treeOf, maxNodes, maxShortest, farthest, maxSupplied, maxStretches, countOk, imageOk, shortestOk, nodeOk, boundaryOk, suppliedOk, stretchOk, rising, stretchesOk, dueOk, inRange, sameSlots}
-use Rattle.scan.specs.Calls.{moved}
+use Rattle.scan.specs.State.{configOf, used, laid, slotsOk, maxNodes, maxShortest, farthest, maxSupplied, maxStretches, countOk, imageOk, shortestOk, nodeOk, boundaryOk, suppliedOk, stretchOk, rising, stretchesOk, dueOk, upTo, endOk, hitOk, leftOk, inRange, sameSlots}
+use Rattle.scan.specs.Calls.{moved, owing}
 use Rattle.scan.specs.Laws.Slots.{Real, right-real, used-laid, same-slots}
 
 -- What no step changes: tables that are a tree, and the numbers that go with them.
@@ -48,20 +48,110 @@ spans-real : (b lo : ℕ) (ms : List (Stretch ℕ)) → Spans maxBody b lo ms �
 spans-real b lo [] p = tt
 spans-real b lo (m ∷ ms) p = (right-real m (omega (arith, p .1, p .3)), spans-real b (m .right) ms (p .4))
 
-module _ (t : Tables) (s : Scan) (c : Config ℕ) (w : Within t (s .count) (s .image) c) (due : Bool) where
+module _ (t : Tables) (s : Scan) (c : Config ℕ) (w : Within t (s .count) (s .image) c) where
   five : length (c .stretches) ≤ maxStretches
   five = four-few (length (c .stretches)) (short maxBody (c .boundary) 0 (c .stretches) (omega arith) (w .held .spans))
 
   -- A state that is moved to a configuration in range stands there.
-  pub moved-config : configOf (moved s c due) ≡ c
+  pub moved-config : configOf (moved s c) ≡ c
   moved-config =
       ap (λ ms. record { boundary = c .boundary; node = c .node; depth = c .depth; stretches = ms })
       (used-laid maxStretches (c .stretches) (spans-real (c .boundary) 0 (c .stretches) (w .held .spans)) five)
 
-  pub moved-slots : slotsOk (moved s c due) ≡ true
+  pub moved-slots : slotsOk (moved s c) ≡ true
   moved-slots =
       let ms = laid maxStretches (c .stretches) in
       ap (λ d. sameSlots ms (laid maxStretches (d .stretches))) moved-config ∙ same-slots ms
+
+-- The hits with this end that are left at a configuration, that of node v next.
+pub record Pending (t : Tables) (count n S : ℕ) (c : Config ℕ) (end v : ℕ) : Type 0 where
+  pub below : v < count
+  pub marked : 1 ≤ getD (t .token) v 0
+  pub deep : depth t v ≤ end
+  pub inside : end ≤ n
+  pub before : end < c .boundary
+  pub near : c .boundary ≤ end + S
+  pub root : c .node ≡ 0
+  pub upto : Upto end (c .stretches)
+
+-- What is left at a configuration: nothing, and then the end is 0, or hits, and then no byte is due.
+pub record Left (t : Tables) (count n S : ℕ) (c : Config ℕ) (due : Bool) (end v : ℕ) : Type 0 where
+  pub none : v ≡ 0 → end ≡ 0
+  pub some : 0 < v → Pending t count n S c end v
+  pub idle : 0 < v → due ≡ false
+
+abbrev pub LeftFor : Tables → Scan → Type 0
+LeftFor t s = Left t (s .count) (s .image) (s .shortest) (configOf s) (s .due) (s .end) (s .hit)
+
+upto-true : (n : ℕ) (ms : List (Stretch ℕ)) → Upto n ms → upTo n ms ≡ true
+upto-true n [] u = refl
+upto-true n (m ∷ ms) u = cc (le-leb (m .right) n (u .0), upto-true n ms (u .1))
+
+upto-out : (n : ℕ) (ms : List (Stretch ℕ)) → upTo n ms ≡ true → Upto n ms
+upto-out n [] h = tt
+upto-out n (m ∷ ms) h = (leb-true (m .right) n (and-l _ _ h), upto-out n ms (and-r (leb (m .right) n) _ h))
+
+module _ (t : Tables) (s : Scan) where
+  abbrev leftBy : ℕ → Bool
+  leftBy v = elim v [ zero ↦ eqb (s .end) 0 | suc w ↦ hitOk t s && endOk s ]
+
+  pub left-true : LeftFor t s → leftOk t s ≡ true
+  left-true l = go (s .hit) refl
+    where
+      go : (v : ℕ) → s .hit ≡ v → leftBy v ≡ true
+      go zero e = eq-eqb (s .end) 0 (l .none e)
+      go (suc v) e =
+          let p = l .some (omega arith) in
+          cc (
+            lt-ltb (s .hit) (s .count) (p .below),
+            ne-eqb (getD (t .token) (s .hit) 0) 0 (λ z. omega (arith, p .marked)),
+            le-leb (depth t (s .hit)) (s .end) (p .deep),
+            le-leb (s .end) (s .image) (p .inside),
+            lt-ltb (s .end) (s .boundary) (p .before),
+            le-leb (s .boundary) (s .end + s .shortest) (p .near),
+            eq-eqb (s .node) 0 (p .root),
+            l .idle (omega arith),
+            upto-true (s .end) (used (s .stretches)) (p .upto),
+          )
+
+  abbrev hitTests : List Bool
+  hitTests = ltb (s .hit) (s .count) ∷ not (eqb (getD (t .token) (s .hit) 0) 0) ∷ leb (depth t (s .hit)) (s .end) ∷ []
+
+  abbrev endTests : List Bool
+  endTests =
+      leb (s .end) (s .image) ∷ ltb (s .end) (s .boundary) ∷ leb (s .boundary) (s .end + s .shortest)
+      ∷ eqb (s .node) 0 ∷ not (s .due) ∷ upTo (s .end) (used (s .stretches)) ∷ []
+
+  pub left-out : leftOk t s ≡ true → LeftFor t s
+  left-out h = record {
+    none = λ e. go (s .hit) e h;
+    some = λ a. pending (s .hit) a h;
+    idle = λ a. idle (s .hit) a h;
+  }
+    where
+      go : (v : ℕ) → v ≡ 0 → leftBy v ≡ true → s .end ≡ 0
+      go zero e h = eqb-true (s .end) 0 h
+      go (suc v) e h = absurd (omega arith)
+
+      pending : (v : ℕ) → 0 < v → leftBy v ≡ true → Pending t (s .count) (s .image) (s .shortest) (configOf s) (s .end) (s .hit)
+      pending zero a h = absurd (omega arith)
+      pending (suc v) a h =
+          let p = passed hitTests (and-l (hitOk t s) (endOk s) h) in
+          let q = passed endTests (and-r (hitOk t s) (endOk s) h) in
+          record {
+            below = ltb-true (s .hit) (s .count) (p 0);
+            marked = omega (arith, eqb-false (getD (t .token) (s .hit) 0) 0 (not-true _ (p 1)));
+            deep = leb-true (depth t (s .hit)) (s .end) (p 2);
+            inside = leb-true (s .end) (s .image) (q 0);
+            before = ltb-true (s .end) (s .boundary) (q 1);
+            near = leb-true (s .boundary) (s .end + s .shortest) (q 2);
+            root = eqb-true (s .node) 0 (q 3);
+            upto = upto-out (s .end) (used (s .stretches)) (q 5);
+          }
+
+      idle : (v : ℕ) → 0 < v → leftBy v ≡ true → s .due ≡ false
+      idle zero a h = absurd (omega arith)
+      idle (suc v) a h = not-true _ (passed endTests (and-r (hitOk t s) (endOk s) h) 4)
 
 module _ (t : Tables) (s : Scan) where
   rising-true : (lo : ℕ) (ms : List (Stretch ℕ)) → All (Fits t (s .count)) ms
@@ -82,8 +172,8 @@ module _ (t : Tables) (s : Scan) where
 
   -- The tests pass.
   pub in-range : Ready t (s .count) (s .image) (s .shortest) → s .supplied ≤ maxSupplied → slotsOk s ≡ true
-      → Within t (s .count) (s .image) (configOf s) → dueOk t s ≡ true → inRange t s ≡ true
-  in-range r k slots w due =
+      → Within t (s .count) (s .image) (configOf s) → dueOk t s ≡ true → LeftFor t s → inRange t s ≡ true
+  in-range r k slots w due left =
       let c = configOf s in
       cc (
         le-leb 1 (s .count) (r .tree .falling .size),
@@ -99,11 +189,12 @@ module _ (t : Tables) (s : Scan) where
         slots,
         rising-true 0 (c .stretches) (w .fits) (w .held .spans) (w .upto),
         due,
+        left-true t s left,
       )
 
   -- And what they say when they pass.
   abbrev tests : List Bool
-  tests = countOk s ∷ imageOk s ∷ shortestOk s ∷ nodeOk t s ∷ boundaryOk s ∷ suppliedOk s ∷ stretchesOk t s ∷ dueOk t s ∷ []
+  tests = countOk s ∷ imageOk s ∷ shortestOk s ∷ nodeOk t s ∷ boundaryOk s ∷ suppliedOk s ∷ stretchesOk t s ∷ dueOk t s ∷ leftOk t s ∷ []
 
   abbrev stretchTests : Stretch ℕ → List Bool
   stretchTests m =
@@ -156,6 +247,9 @@ module _ (t : Tables) (s : Scan) where
     pub dues : dueOk t s ≡ true
     dues = passed tests h 7
 
+    pub lefts : leftOk t s ≡ true
+    lefts = passed tests h 8
+
     pub within : Unbroken t (s .count) → Within t (s .count) (s .image) (configOf s)
     within u =
         let c = configOf s in
@@ -179,12 +273,18 @@ module _ (t : Tables) (s : Scan) where
           upto = r .2;
         }
 
--- The tests pass where a state is moved to a configuration in range.
-pub moved-range : (t : Tables) (s : Scan) → Ready t (s .count) (s .image) (s .shortest) → s .supplied ≤ maxSupplied
-    → (c : Config ℕ) → Within t (s .count) (s .image) c → (due : Bool)
-    → (not due || wantsByte (next (treeOf t s) (s .image) c)) ≡ true → inRange t (moved s c due) ≡ true
-moved-range t s r k c w due e =
-    let stands = sym (moved-config t s c w due) in
-    in-range t (moved s c due) r k (moved-slots t s c w due)
-    (subst (Within t (s .count) (s .image)) stands w)
-    (subst (λ c. (not due || wantsByte (next (treeOf t s) (s .image) c)) ≡ true) stands e)
+-- Hits that are left, or none.
+pub owing-left : (t : Tables) (count n S : ℕ) (c : Config ℕ) (due : Bool) → due ≡ false → (end v : ℕ)
+    → (0 < v → Pending t count n S c end v) → Left t count n S c due (elim v [ zero ↦ 0 | suc w ↦ end ]) v
+owing-left t count n S c due idle end zero p = record { none = λ _. refl; some = λ a. absurd (omega arith); idle = λ _. idle }
+owing-left t count n S c due idle end (suc v) p = record { none = λ e. absurd (omega arith); some = p; idle = λ _. idle }
+
+-- The tests pass where a state that waits for no byte is moved to a configuration in range, with hits in range left.
+pub owing-range : (t : Tables) (s : Scan) → Ready t (s .count) (s .image) (s .shortest) → s .supplied ≤ maxSupplied
+    → (c : Config ℕ) → Within t (s .count) (s .image) c → s .due ≡ false → (end v : ℕ)
+    → (0 < v → Pending t (s .count) (s .image) (s .shortest) c end v) → inRange t (owing (moved s c) end v) ≡ true
+owing-range t s r k c w idle end v p =
+    let stands = sym (moved-config t s c w) in
+    in-range t (owing (moved s c) end v) r k (moved-slots t s c w) (subst (Within t (s .count) (s .image)) stands w) (cc idle)
+    (subst (λ c. Left t (s .count) (s .image) (s .shortest) c (s .due) (elim v [ zero ↦ 0 | suc w ↦ end ]) v) stands
+    (owing-left t (s .count) (s .image) (s .shortest) c (s .due) idle end v p))

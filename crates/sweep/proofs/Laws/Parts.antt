@@ -22,22 +22,22 @@ use Rattle.listing.specs.Laws.Whole.{select-all}
 use Rattle.listing.specs.Laws.Fits.{part-fits}
 
 -- The hits that end past `at` are all from the first on that does.
-passed-past : (from at : ℕ) (l : List (ℕ × ℕ)) (n : ℕ) → Ordered l → n ≤ length l
+passed-past : (tokens : List (List ℕ)) (from at : ℕ) (l : List (ℕ × ℕ)) (n : ℕ) → Ordered tokens l → n ≤ length l
     → ((i : ℕ) → i < n → from + getD (map (λ h. h .0) l) i 0 ≤ at)
     → (n < length l → at < from + getD (map (λ h. h .0) l) n 0)
     → past at (map (further from) l) ≡ map (further from) (drop n l)
-passed-past from at [] zero o h f g = refl
-passed-past from at [] (suc n) o h f g = refl
-passed-past from at (a ∷ l) zero o h f g =
+passed-past tokens from at [] zero o h f g = refl
+passed-past tokens from at [] (suc n) o h f g = refl
+passed-past tokens from at (a ∷ l) zero o h f g =
     select-all (λ h. ltb at (h .0)) (map (further from) (a ∷ l))
     (λ x m. let r = Memᴰ·of-map (further from) (a ∷ l) m in lt-ltb at (x .0) (omega (arith, g (omega arith), ap (λ h. h .0) (r .2), later (r .0) (r .1))))
   where
     later : (b : ℕ × ℕ) → List·Memᴰ b (a ∷ l) → a .0 ≤ b .0
     later b (List·Memᴰ·head e) = omega (arith, ap (λ h. h .0) e)
-    later b (List·Memᴰ·tail m) = o .0 (b .0) (b .1) m
-passed-past from at (a ∷ l) (suc n) o h f g =
+    later b (List·Memᴰ·tail m) = o .0 b m .0
+passed-past tokens from at (a ∷ l) (suc n) o h f g =
     let z : ltb at (from + a .0) ≡ _ = le-ltb at (from + a .0) (f 0 (omega arith)) in
-    cc (passed-past from at l n (o .1) (omega arith) (λ i h. f (suc i) (omega arith)) (λ h. g (omega arith)))
+    cc (passed-past tokens from at l n (o .1) (omega arith) (λ i h. f (suc i) (omega arith)) (λ h. g (omega arith)))
 
 -- The buffers hold the hits.
 pairs-parts : (l : List (ℕ × ℕ)) → pairs (map (λ h. h .0) l) (map (λ h. h .1) l) ≡ l
@@ -125,7 +125,7 @@ module _ (book image : List ℕ) (totals : Sums) (at : ℕ) (known : Known book 
       ends-at = to-is;
       inside = (h, hits-fit .0, hits-fit .1);
       lists =
-          passed-past (fromAt ts image at) at found before
+          passed-past ts (fromAt ts image at) at found before
           (happens-exact ts (accepted-setting book ts (known .read)) (partAt ts image at) .occurrences .ordered) (omega (arith, hits-is))
           (λ i l. omega (arith, goes-on .2, from-is, p i l, at-end i (omega (arith, hits-is))))
           (λ l. omega (arith, goes-on .2, from-is, q (omega (arith, hits-is)), at-end before l))

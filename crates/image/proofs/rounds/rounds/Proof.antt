@@ -5,6 +5,7 @@ use mathlib.Core.Path.{_≡_, refl, sym, _∙_}
 use mathlib.Core.Logic.{⊎-elim}
 use borrow.Author.Needs.{needs}
 use lib.ListN.{length}
+use Rattle.book.specs.Book.{maxBody}
 use Rattle.image.specs.Sweeping.{Standing}
 use Rattle.image.proofs.Laws.Turn.{Turned, ended-numbers, ended-fits, ended-few, ended-loose, turned, turned-bare, turned-as}
 use Rattle.image.proofs.Laws.TurnAttempt.{round-goes}
@@ -13,34 +14,35 @@ use Rattle.image.proofs.rounds.rounds.Statement.{statement}
 use Rattle.image.proofs.rounds.rounds.Tie as tie
 
 abbrev Inv-loop : tie.InvT-loop
-Inv-loop book image label token first next count kids shortest ends₀ tokens₀ nodes₀ bytes₀ skip₀ pairs₀ b₀ spans₀ fetched₀ hits₀ ends tokens nodes bytes skip pairs b spans fetched hits =
+Inv-loop book image label token first next count kids shortest kept₀ ends₀ tokens₀ nodes₀ bytes₀ skip₀ pairs₀ b₀ spans₀ fetched₀ hits₀ kept ends tokens nodes bytes skip pairs b spans fetched hits =
     Rounding book image shortest ends₀ tokens₀ ends tokens nodes bytes skip pairs (record { boundary = b; spans = spans; fetched = fetched; hits = hits })
+    × (length kept ≡ maxBody)
 
 abbrev μ-loop : tie.MeasureT-loop
-μ-loop book image label token first next count kids shortest ends₀ tokens₀ nodes₀ bytes₀ skip₀ pairs₀ b₀ spans₀ fetched₀ hits₀ ends tokens nodes bytes skip pairs b spans fetched hits =
+μ-loop book image label token first next count kids shortest kept₀ ends₀ tokens₀ nodes₀ bytes₀ skip₀ pairs₀ b₀ spans₀ fetched₀ hits₀ kept ends tokens nodes bytes skip pairs b spans fetched hits =
     length image + 1 - b
 
 -- the function's entry, from the loop; the loop, from the round
 abbrev start : tie.At-loop Inv-loop μ-loop → tie.Start Inv-loop μ-loop
-start c = c .before .before .before .before .before .before .before .before .before .before .before .before .before .before .before
+start c = c .before .before .before .before .before .before .before .before .before .before .before .before .before .before .before .before
 
 abbrev turn : tie.After-attempt Inv-loop μ-loop → tie.At-loop Inv-loop μ-loop
-turn m = m .before .before .before .before .before .before .before .before
+turn m = m .before .before .before .before .before .before .before .before .before
 
 -- the round, from what is then remembered
 abbrev tried : tie.Joined1 Inv-loop μ-loop → tie.After-attempt Inv-loop μ-loop
-tried j = j .before .before .before .before .before .before .before .before .before .before .before .before .before .before
+tried j = j .before .before .before .before .before .before .before .before .before .before .before .before .before .before .before .before
 
 abbrev here : tie.At-loop Inv-loop μ-loop → Standing
 here c = record { boundary = c .loop .b; spans = c .loop .spans; fetched = c .loop .fetched; hits = c .loop .hits }
 
 inside : (m : tie.After-attempt Inv-loop μ-loop) → turn m .loop .b ≤ length (start (turn m) .args .image .now)
-inside m = m .before .before .before .before .before .before .before .loop-test .taken
+inside m = m .before .before .before .before .before .before .before .before .loop-test .taken
 
 numbers : (m : tie.After-attempt Inv-loop μ-loop) → let b = turn m .loop .b in
     let r = m .attempt .result in
     (r .depth ≤ b) × (r .low ≤ b) × (1 ≤ r .by) × (r .by ≤ 1024) × (b ≤ 16777216) × (turn m .loop .fetched ≤ 2 ^ 36)
-numbers m = ended-numbers (known (turn m .loop .inv)) (inside m) (start (turn m) .pre .0 .within) (m .attempt .ensures .0)
+numbers m = ended-numbers (known (turn m .loop .inv .0)) (inside m) (start (turn m) .pre .0 .within) (m .attempt .ensures .0)
 
 -- Where the sweep then stands.
 next : (j : tie.Joined1 Inv-loop μ-loop) → let m = tried j in
@@ -49,7 +51,7 @@ next : (j : tie.Joined1 Inv-loop μ-loop) → let m = tried j in
     (record { boundary = turn m .loop .b + m .attempt .result .by; spans = j .if1 .spans; fetched = j .if1 .fetched; hits = m .attempt .result .hits })
     (m .attempt .result .hits)
 next j = let m = tried j in
-    let k = known (turn m .loop .inv) in
+    let k = known (turn m .loop .inv .0) in
     let w = start (turn m) .pre .0 .within in
     let e = m .attempt .ensures .0 in
     let hits = m .attempt .result .hits in
@@ -62,14 +64,14 @@ next j = let m = tried j in
 -- What then holds there: the buffers have what was found, and the caches are right.
 abbrev Holds : tie.After-attempt Inv-loop μ-loop → Standing → Type 0
 Holds m after = let a = start (turn m) .args in
-    let l = m .attempt .last .1 .1 .1 .1 .1 .1 .1 .1 .1 .1 .1 in
+    let l = m .attempt .last .1 .1 .1 .1 .1 .1 .1 .1 .1 .1 .1 .1 in
     Rounding (a .book .now) (a .image .now) (a .shortest) (a .ends .now) (a .tokens .now) (l .0) (l .1 .0) (l .1 .1 .0) (l .1 .1 .1 .0) (l .1 .1 .1 .1 .0) (l .1 .1 .1 .1 .1 .0) after
 
 holds : (m : tie.After-attempt Inv-loop μ-loop) (after : Standing) → after .hits ≡ m .attempt .result .hits
     → Turned (start (turn m) .args .book .now) (start (turn m) .args .image .now) (here (turn m)) after (after .hits) → Holds m after
 holds m after e w = let c = turn m in
     let f = m .attempt .ensures .1 in
-    rounding-again (c .loop .inv) (round-goes (start c .pre .0) (known (c .loop .inv)) (inside m) w (rw e (f .0))) (f .1)
+    rounding-again (c .loop .inv .0) (round-goes (start c .pre .0) (known (c .loop .inv .0)) (inside m) w (rw e (f .0))) (f .1)
 
 again : (j : tie.Joined1 Inv-loop μ-loop) → let m = tried j in
     Holds m (record { boundary = turn m .loop .b + m .attempt .result .by; spans = j .if1 .spans; fetched = j .if1 .fetched; hits = m .attempt .result .hits })
@@ -79,48 +81,49 @@ none-requires : tie.Need-none-requires Inv-loop μ-loop
 none-requires c κs = search needs
 
 loop-holds : tie.Need-loop-holds Inv-loop μ-loop
-loop-holds c = let s = c .before .before .before .before .before .before .before .before .before .before .before .before .before .before in
+loop-holds c = let s = c .before .before .before .before .before .before .before .before .before .before .before .before .before .before .before in
     let e = c .none .ensures in
-    rounding-begins (s .args .ends .now) (s .args .tokens .now) (s .pre .0) (s .pre .1 .1) refl e (refl, refl)
+    (rounding-begins (s .args .ends .now) (s .args .tokens .now) (s .pre .0) (s .pre .1 .1 .1) refl e (refl, refl), s .pre .1 .1 .0)
 
 attempt-requires : tie.Need-attempt-requires Inv-loop μ-loop
-attempt-requires c κs = let l = c .before .before .before .before .before .before .before in
+attempt-requires c κs = let l = c .before .before .before .before .before .before .before .before in
     let p = start l .pre in
-    (p .0, (rounding-begun (l .loop .inv) (c .before .before .before .before .before .before .loop-test .taken), (p .1 .0, l .loop .inv .caches)))
+    let i = l .loop .inv in
+    (p .0, (rounding-begun (i .0) (c .before .before .before .before .before .before .before .loop-test .taken), (p .1 .0, (i .1, i .0 .caches))))
 
 forgets-requires : tie.Need-forgets-requires Inv-loop μ-loop
-forgets-requires c κs = numbers (c .before .before .before .before .before .before .before .before .before .before .before .before) .3
+forgets-requires c κs = numbers (c .before .before .before .before .before .before .before .before .before .before .before .before .before .before) .3
 
 sub-fetched : tie.Need-sub-fetched Inv-loop μ-loop
-sub-fetched c = omega (arith, numbers (c .before .before .before .before .before .before .before .before .before .before .before .before .before .before .before))
+sub-fetched c = omega (arith, numbers (c .before .before .before .before .before .before .before .before .before .before .before .before .before .before .before .before .before))
 
 add-fetched : tie.Need-add-fetched Inv-loop μ-loop
-add-fetched c = omega (arith, numbers (c .before .before .before .before .before .before .before .before .before .before .before .before .before .before .before))
+add-fetched c = omega (arith, numbers (c .before .before .before .before .before .before .before .before .before .before .before .before .before .before .before .before .before))
 
 loose-requires : tie.Need-loose-requires Inv-loop μ-loop
-loose-requires c κs = let m = c .before .before .before .before .before .before .before .before .before .before .before .before .before .before in
+loose-requires c κs = let m = c .before .before .before .before .before .before .before .before .before .before .before .before .before .before .before .before in
     let n = numbers m in
-    (ended-fits (known (turn m .loop .inv)) (inside m) (start (turn m) .pre .0 .within) (m .attempt .ensures .0), (n .1, omega (arith, n)))
+    (ended-fits (known (turn m .loop .inv .0)) (inside m) (start (turn m) .pre .0 .within) (m .attempt .ensures .0), (n .1, omega (arith, n)))
 
 add-fetched-2 : tie.Need-add-fetched-2 Inv-loop μ-loop
-add-fetched-2 c = let m = c .before .before .before .before .before .before .before .before .before .before .before .before .before .before .before in
+add-fetched-2 c = let m = c .before .before .before .before .before .before .before .before .before .before .before .before .before .before .before .before .before in
     omega (
       arith,
       numbers m,
       c .loose .ensures,
-      ended-loose (known (turn m .loop .inv)) (inside m) (start (turn m) .pre .0 .within) (m .attempt .ensures .0),
+      ended-loose (known (turn m .loop .inv .0)) (inside m) (start (turn m) .pre .0 .within) (m .attempt .ensures .0),
     )
 
 sub-remember : tie.Need-sub-remember Inv-loop μ-loop
-sub-remember c = omega (arith, numbers (c .before .before .before .before .before .before .before .before .before .before .before .before .before .before .before .before))
+sub-remember c = omega (arith, numbers (c .before .before .before .before .before .before .before .before .before .before .before .before .before .before .before .before .before .before))
 
 add-remember : tie.Need-add-remember Inv-loop μ-loop
-add-remember c = omega (arith, numbers (c .before .before .before .before .before .before .before .before .before .before .before .before .before .before .before .before .before))
+add-remember c = omega (arith, numbers (c .before .before .before .before .before .before .before .before .before .before .before .before .before .before .before .before .before .before .before))
 
 remember-requires : tie.Need-remember-requires Inv-loop μ-loop
-remember-requires c κs = let m = c .before .before .before .before .before .before .before .before .before .before .before .before .before .before .before .before .before in
+remember-requires c κs = let m = c .before .before .before .before .before .before .before .before .before .before .before .before .before .before .before .before .before .before .before in
     let n = numbers m in
-    let k = known (turn m .loop .inv) in
+    let k = known (turn m .loop .inv .0) in
     let w = start (turn m) .pre .0 .within in
     let e = m .attempt .ensures .0 in
     (ended-fits k (inside m) w e, ((omega arith, omega arith, omega (arith, n)), ended-few k (inside m) w e))
@@ -140,28 +143,33 @@ loop-less : tie.Need-loop-less Inv-loop μ-loop
 loop-less c = let m = tried (c .before .before .before .before .before .before) in omega (arith, numbers m, inside m, c .before .before .ahead .ensures .up)
 
 loop-again : tie.Need-loop-again Inv-loop μ-loop
-loop-again c = let j = c .before .before .before .before .before .before in rounding-skims (again j) (start (turn (tried j)) .pre .0) (c .before .before .ahead .ensures .leads)
+loop-again c = let j = c .before .before .before .before .before .before in
+    let t = turn (tried j) in
+    (rounding-skims (again j) (start t .pre .0) (c .before .before .ahead .ensures .leads), j .before .before .before .before .before .before .before .before .before .before .before .before .before .before .before .kept .given ∙ t .loop .inv .1)
 
 same-length : tie.Need-same-length Inv-loop μ-loop
-same-length c = ends-long (c .before .loop .inv)
+same-length c = let t = c .before in t .loop .inv .1 ∙ sym (start t .pre .1 .1 .0)
 
 same-length-2 : tie.Need-same-length-2 Inv-loop μ-loop
-same-length-2 c = tokens-long (c .before .loop .inv)
+same-length-2 c = ends-long (c .before .loop .inv .0)
 
 same-length-3 : tie.Need-same-length-3 Inv-loop μ-loop
-same-length-3 c = let t = c .before in t .loop .inv .caches .size ∙ sym (start t .pre .1 .1 .size)
+same-length-3 c = tokens-long (c .before .loop .inv .0)
 
 same-length-4 : tie.Need-same-length-4 Inv-loop μ-loop
-same-length-4 c = let t = c .before in t .loop .inv .caches .by-byte .size ∙ sym (start t .pre .1 .1 .by-byte .size)
+same-length-4 c = let t = c .before in t .loop .inv .0 .caches .size ∙ sym (start t .pre .1 .1 .1 .size)
 
 same-length-5 : tie.Need-same-length-5 Inv-loop μ-loop
-same-length-5 c = let t = c .before in t .loop .inv .caches .by-skip .size ∙ sym (start t .pre .1 .1 .by-skip .size)
+same-length-5 c = let t = c .before in t .loop .inv .0 .caches .by-byte .size ∙ sym (start t .pre .1 .1 .1 .by-byte .size)
 
 same-length-6 : tie.Need-same-length-6 Inv-loop μ-loop
-same-length-6 c = let t = c .before in t .loop .inv .caches .by-pair .size ∙ sym (start t .pre .1 .1 .by-pair .size)
+same-length-6 c = let t = c .before in t .loop .inv .0 .caches .by-skip .size ∙ sym (start t .pre .1 .1 .1 .by-skip .size)
+
+same-length-7 : tie.Need-same-length-7 Inv-loop μ-loop
+same-length-7 c = let t = c .before in t .loop .inv .0 .caches .by-pair .size ∙ sym (start t .pre .1 .1 .1 .by-pair .size)
 
 returns : tie.Need-returns Inv-loop μ-loop
-returns c = rounding-done (c .before .loop .inv) (c .loop-test .left)
+returns c = rounding-done (c .before .loop .inv .0) (c .loop-test .left)
 
 pub rounds-spec : {M : Type 1} → statement M
 rounds-spec =
@@ -191,4 +199,5 @@ rounds-spec =
     same-length-4
     same-length-5
     same-length-6
+    same-length-7
     returns)

@@ -1,5 +1,6 @@
 -- `learn_pair` meets its contract: the cache is given the shift of a round that ended at its second byte, or stays.
 use mathlib.Core.Path.{ap}
+use borrow.Author.Tests.{eqb-true, not-false}
 use borrow.Author.Needs.{needs}
 use Rattle.image.specs.Rule5.{closingOf}
 use Rattle.image.proofs.Laws.Turn.{by-pair-set}
@@ -40,8 +41,8 @@ returns-2 : tie.Need-returns-2
 returns-2 c =
     let told = c .before .stop .given in
     λ book image l b.
-    by-pair-set (told .0 .0) (search needs) (search needs) (c .before .before .before .before .if1 .left) (c .before .before .before .if2 .left)
-    (ap closingOf (told .1)) l b
+    by-pair-set (told .0 .0) (search needs) (search needs) (c .before .before .before .before .if1 .left)
+    (eqb-true _ _ (not-false _ (c .before .before .before .if2 .left))) (ap closingOf (told .1)) l b
 
 returns-3 : tie.Need-returns-3
 returns-3 c = search needs

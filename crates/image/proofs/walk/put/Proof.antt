@@ -18,9 +18,6 @@ mul-ends c = search needs
 slice-write-ends : tie.Need-slice-write-ends
 slice-write-ends c = search needs
 
-cast-tokens : tie.Need-cast-tokens
-cast-tokens c = search needs
-
 mul-tokens : tie.Need-mul-tokens
 mul-tokens c = search needs
 
@@ -54,7 +51,6 @@ put-spec =
     cast-ends
     mul-ends
     slice-write-ends
-    cast-tokens
     mul-tokens
     slice-write-tokens
     same-length

@@ -1,22 +1,24 @@
 -- One step: it keeps what holds of a configuration, goes forward, and reports what it has to.
 use Prim.Native.Nat.{ℕ, zero, suc, _+_, _-_, _≤_, _<_}
 use native.Mathlib.Omega.{arith}
-use mathlib.Core.Path.{_≡_, refl, ap, _∙_}
+use native.Mathlib.Nat.{lt-of-not-le}
+use mathlib.Core.Path.{_≡_, refl, ap, sym, subst, _∙_}
 use mathlib.Core.Bool.{true, _&&_, _||_}
-use mathlib.Core.List.{List, [], _∷_, _++_}
+use mathlib.Core.List.{List, [], _∷_, _++_, append-assoc}
 use mathlib.Core.Option.{Option, some, none}
 use borrow.Author.Tests.{leb-true, lt-ltb, ne-eqb}
 use lib.Dec.{ltb, eqb}
-use lib.ListN.{length, getD}
-use Rattle.rules.specs.Rules.{Event, recalled, shifted, Config, Step, Next, finished, wants, goes, place, hitAt, deeper, recall, endRound, taken, takeByte, look, next}
+use lib.ListN.{length, getD, drop, length-drop}
+use Rattle.rules.specs.Rules.{Event, recalled, hit, shifted, Config, Step, Next, finished, wants, goes, place, hitAt, deeper, hitsUp, recall, endRound, taken, takeByte, look, next}
 use Rattle.rules.specs.Tokens.{ofTokens, ends}
 use Rattle.rules.specs.Lists.{anyOf, numberFrom}
 use Rattle.rules.specs.Sweep.{Stands}
 use Rattle.rules.specs.Laws.Tests.{decide, clash, and-l, anyOf-in, anyOf-out, next-cases}
 use Rattle.rules.specs.Laws.Endings.{Numbered, numbered}
 use Rattle.rules.specs.Laws.Setting.{Setting}
+use Rattle.rules.specs.Laws.Hits.{end-events}
 use Rattle.rules.specs.Laws.Limit.Ends.{stepsLeft, less-end, less-deeper}
-use Rattle.rules.specs.Laws.Exact.Reads.{Reads, reads-eq, reads-cons, reads-ends, byteOf, stands→reads, reads→stands}
+use Rattle.rules.specs.Laws.Exact.Reads.{Reads, reads-eq, reads-drop, reads-cons, reads-ends, byteOf, stands→reads, reads→stands}
 use Rattle.rules.specs.Laws.Exact.Shift.{Known, shift-ge, shift-le}
 use Rattle.rules.specs.Laws.Exact.Configs.{Inv, end-inv, recall-known}
 use Rattle.rules.specs.Laws.Exact.Events.{Later, Good, good-event, good-weaken, good-hit}
@@ -24,8 +26,8 @@ use Rattle.rules.specs.Laws.Exact.Events.{Later, Good, good-event, good-
 pub record StepGood (tokens : List (List ℕ)) (D : ℕ) (image : List ℕ) (c : Config (List ℕ)) (s : Step (List ℕ)) : Type 0 where
   pub inv : Inv (byteOf image) D (s .config)
   pub less : stepsLeft (length image) D (s .config .boundary) (s .config .depth) < stepsLeft (length image) D (c .boundary) (c .depth)
-  pub back : (rest : List (Event (List ℕ))) → Good tokens image (s .config .boundary) (s .config .depth) rest
-      → Good tokens image (c .boundary) (c .depth) (s .events ++ rest)
+  pub back : (rest : List (Event (List ℕ))) → Good tokens image (s .config .boundary) (suc D) rest
+      → Good tokens image (c .boundary) (suc D) (s .events ++ rest)
 
 module _ (tokens : List (List ℕ)) (S D : ℕ) (setting : Setting tokens S D) (image : List ℕ) where
   -- what the next step has to be
@@ -34,6 +36,45 @@ module _ (tokens : List (List ℕ)) (S D : ℕ) (setting : Setting tokens S D) (
   NextGood c (wants at) = StepGood tokens D image c (takeByte (ofTokens tokens S) c (byteOf image at))
   NextGood c (goes s) = StepGood tokens D image c s
 
+  -- The tokens that end what stands before b are hits there, the longest first.
+  module _ (b : ℕ) (h : b ≤ length image) (u : List ℕ) (r : Reads (byteOf image) u b) (fits : length u ≤ b) where
+    -- the last k bytes of it, and the token that they are, if they are one
+    module _ (k : ℕ) (k< : k < length u) (rest : List (Event (List ℕ))) (g : Good tokens image b (suc k) rest) where
+      abbrev last : List ℕ
+      last = drop (length u - suc k) u
+
+      size : length last ≡ suc k
+      size = rw length-drop (omega arith)
+
+      last-good : (m : ℕ) → Numbered tokens last 1 m → Good tokens image b (suc (suc k)) (hitAt b m ++ rest)
+      last-good zero q =
+          good-weaken tokens image b (suc (suc k)) b (suc k) rest
+          (λ i e s l. (
+            l .0,
+            λ z.
+                let here : e ≡ b = omega (arith, l .0) in
+                let reads = rw here at (stands→reads tokens image e i s) in
+                let ne : length (getD tokens i []) ≡ suc k → ⊥ =
+                λ y. q i (s .numbered) (reads-eq (byteOf image) _ last b reads (reads-drop (byteOf image) (length u - suc k) u b r) (omega (arith, size))) in
+                omega (arith, l .1 z),
+          ))
+          (λ x l. (l .0, λ z. omega (arith, l .1 z))) g
+      last-good (suc m) q =
+          let z : suc m - 1 ≡ m = omega arith in
+          let t : getD tokens m [] ≡ last = rw z at (q .2) in
+          let l : length (getD tokens m []) ≡ suc k = ap length t ∙ size in
+          let s = reads→stands tokens image b m (omega (arith, q .1)) (omega arith) h (rw t (reads-drop (byteOf image) (length u - suc k) u b r)) in
+          subst (λ n. Good tokens image b (suc n) (hit b (suc m) ∷ rest)) l
+          (good-hit tokens image setting b m rest s (subst (λ n. Good tokens image b n rest) (sym l) g))
+
+    pub ups-good : (k : ℕ) → k ≤ length u → (rest : List (Event (List ℕ))) → Good tokens image b 1 rest
+        → Good tokens image b (suc k) (hitsUp (ofTokens tokens S) b u k ++ rest)
+    ups-good zero k≤ rest g = g
+    ups-good (suc k) k≤ rest g =
+        let last = drop (length u - suc k) u in
+        subst (Good tokens image b (suc (suc k))) (sym (append-assoc (hitAt b (numberFrom 1 last tokens)) (hitsUp (ofTokens tokens S) b u k) rest))
+        (last-good k k≤ _ (ups-good k (omega arith) rest g) (numberFrom 1 last tokens) (numbered last 1 tokens (omega arith)))
+
   module _ (c : Config (List ℕ)) (v : Inv (byteOf image) D c) (h : c .boundary ≤ length image) where
     -- A round may end where each token that stands here is no longer than what is matched.
     end-good : (o : Option ℕ) → Known (byteOf image) (place c) o
@@ -41,10 +82,13 @@ module _ (tokens : List (List ℕ)) (S D : ℕ) (setting : Setting tokens S D) (
         → StepGood tokens D image c (endRound (ofTokens tokens S) c o)
     end-good o known stop = record {
       inv = end-inv (byteOf image) tokens S D c o v;
-      less = less-end (length image) D (c .boundary) _ (c .depth) h (omega (arith, up)) (v .short);
+      less = less-end (length image) D (c .boundary) b′ (c .depth) h (omega (arith, up)) (v .short);
       back = λ rest g.
-          good-event tokens image (c .boundary) (c .depth) (shifted _ _) rest refl
-          (good-weaken tokens image (c .boundary) (c .depth) b′ 0 rest on (λ x l. (omega arith, λ k. absurd (omega (arith, up, l .0)))) g);
+          subst (Good tokens image (c .boundary) (suc D)) (sym (end-events (ofTokens tokens S) c o rest))
+          (good-weaken tokens image (c .boundary) (suc D) (c .boundary) (suc (c .depth)) _ here (λ x l. (l .0, λ k. omega (arith, l .1 k, v .short)))
+          (ups-good (c .boundary) h (c .node) (v .reads) (omega (arith, v .deep, v .inside)) (c .depth) (omega (arith, v .deep)) _
+          (good-event tokens image (c .boundary) 1 (shifted _ _) rest refl
+          (good-weaken tokens image (c .boundary) 1 b′ (suc D) rest on (λ x l. (omega (arith, l .0), λ k. absurd (omega (arith, up, l .0)))) g))));
     }
       where
         b′ : ℕ
@@ -53,13 +97,15 @@ module _ (tokens : List (List ℕ)) (S D : ℕ) (setting : Setting tokens S D) (
         up : 1 ≤ ofTokens tokens S .shift (c .node) o
         up = shift-ge tokens S (c .node) o
 
-        on : (i e : ℕ) → Stands tokens image e i → Later tokens (c .boundary) (c .depth) (e, suc i) → Later tokens b′ 0 (e, suc i)
+        here : (i e : ℕ) → Stands tokens image e i → Later tokens (c .boundary) (suc D) (e, suc i) → Later tokens (c .boundary) (suc (c .depth)) (e, suc i)
+        here i e s l = (l .0, λ k. let x : e ≡ c .boundary = omega (arith, l .0) in omega (arith, stop i (rw x at s)))
+
+        on : (i e : ℕ) → Stands tokens image e i → Later tokens (c .boundary) 1 (e, suc i) → Later tokens b′ (suc D) (e, suc i)
         on i e s l =
-            let ne : e ≡ c .boundary → ⊥ = λ x. omega (arith, stop i (rw x at s), l .1 (omega arith)) in
-            let far : c .boundary < e = omega (arith, l .0) in
+            let far : c .boundary < e = lt-of-not-le (λ k. omega (arith, l .1 k, setting .shortest i (s .numbered), setting .positive)) in
             let r = stands→reads tokens image e i s in (
               omega (arith, shift-le (byteOf image) tokens S (c .boundary) e i far (s .numbered) r (c .node) o (v .reads) (rw (v .deep) at known)),
-              λ _. omega (arith, setting .shortest i (s .numbered), setting .positive),
+              λ _. omega (arith, setting .longest i (s .numbered)),
             )
 
     -- What is matched ends each token that stands here and is as long.
@@ -98,30 +144,6 @@ module _ (tokens : List (List ℕ)) (S D : ℕ) (setting : Setting tokens S D) (
         holds = v .holds;
       }
 
-      -- With its number, or with none.
-      deeper-back : (m : ℕ) → Numbered tokens (x ∷ c .node) 1 m → (rest : List (Event (List ℕ)))
-          → Good tokens image (c .boundary) (c .depth + 1) rest
-          → Good tokens image (c .boundary) (c .depth) (hitAt (c .boundary) m ++ rest)
-      deeper-back zero q rest g =
-          good-weaken tokens image (c .boundary) (c .depth) (c .boundary) (c .depth + 1) rest
-          (λ i e s l. (
-            l .0,
-            λ k.
-                let here : e ≡ c .boundary = omega (arith, l .0) in
-                let r = rw here at (stands→reads tokens image e i s) in
-                let ne : length (getD tokens i []) ≡ c .depth + 1 → ⊥ =
-                λ y. q i (s .numbered) (reads-eq (byteOf image) _ (x ∷ c .node) (c .boundary) r grown-reads (omega (arith, v .deep))) in
-                omega (arith, l .1 k),
-          ))
-          (λ y l. (l .0, λ k. omega (arith, l .1 k)))
-          g
-      deeper-back (suc m) q rest g =
-          let z : suc m - 1 ≡ m = omega arith in
-          let t : getD tokens m [] ≡ x ∷ c .node = rw z at (q .2) in
-          let l : length (getD tokens m []) ≡ c .depth + 1 = ap length t ∙ omega (arith, v .deep) in
-          good-hit tokens image setting (c .boundary) (c .depth) m rest
-          (reads→stands tokens image (c .boundary) m (omega (arith, q .1)) (omega arith) h (rw t grown-reads)) l g
-
       take-good : StepGood tokens D image c (takeByte (ofTokens tokens S) c x)
       take-good =
           decide (λ o. StepGood tokens D image c (taken (ofTokens tokens S) c x o)) (anyOf (ends (x ∷ c .node)) tokens) _ _
@@ -131,7 +153,7 @@ module _ (tokens : List (List ℕ)) (S D : ℕ) (setting : Setting tokens S D) (
           record {
             inv = w;
             less = less-deeper (length image) D (c .boundary) (c .depth) h (w .short);
-            back = deeper-back (numberFrom 1 (x ∷ c .node) tokens) (numbered (x ∷ c .node) 1 tokens (omega arith));
+            back = λ rest g. g;
           })
           (λ f. end-good (some x) x≡ λ i s.
           let no-more : c .depth < length (getD tokens i []) → ⊥ = λ k.
@@ -145,7 +167,7 @@ module _ (tokens : List (List ℕ)) (S D : ℕ) (setting : Setting tokens S D) (
         record {
           inv = s .inv;
           less = s .less;
-          back = λ rest g. good-event tokens image (c .boundary) (c .depth) (recalled _) _ refl (s .back rest g);
+          back = λ rest g. good-event tokens image (c .boundary) (suc D) (recalled _) _ refl (s .back rest g);
         }
 
   pub next-good : (c : Config (List ℕ)) → Inv (byteOf image) D c → NextGood c (next (ofTokens tokens S) (length image) c)

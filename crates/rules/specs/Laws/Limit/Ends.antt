@@ -5,8 +5,9 @@ use native.Mathlib.Nat.{mul-le-mul-right}
 use mathlib.Core.Path.{_≡_, refl}
 use mathlib.Core.List.{List, [], _∷_, _++_}
 use mathlib.Core.Option.{Option, some, none}
-use Rattle.rules.specs.Rules.{Tree, Config, Event, fetched, recalled, hit, shifted, done, place, hitAt, deeper, fresh, recall, endRound, taken, look, follow, trace}
+use Rattle.rules.specs.Rules.{Tree, Config, Event, fetched, recalled, hit, shifted, done, place, deeper, fresh, recall, endRound, taken, look, follow, trace}
 use Rattle.rules.specs.Laws.Tests.{next-cases}
+use Rattle.rules.specs.Laws.Hits.{end-before}
 
 -- how many steps are left, at the most, from boundary b and depth d
 abbrev pub stepsLeft : ℕ → ℕ → ℕ → ℕ → ℕ
@@ -51,20 +52,16 @@ module _ {E : Type 0} (tree : Tree E) (size : E → ℕ) (D : ℕ) (finite : Fin
     end-whole o =
         let t = finite .moves (c .node) o in
         let c′ = endRound tree c o .config in
-        ih c′ (record { sized = finite .bare; deep = omega arith })
-        (omega (arith, less-end n D (c .boundary) (c′ .boundary) (c .depth) h (omega arith) (s .deep)))
-
-    hit-whole : (t : ℕ) (es : List (Event E)) → Whole es → Whole (hitAt (c .boundary) t ++ es)
-    hit-whole zero es w = w
-    hit-whole (suc t) es w = w
+        end-before tree Whole (λ end t es w. w) c o (rest c′)
+        (ih c′ (record { sized = finite .bare; deep = omega arith })
+        (omega (arith, less-end n D (c .boundary) (c′ .boundary) (c .depth) h (omega arith) (s .deep))))
 
     taken-whole : (x : ℕ) (o : Option E) → tree .child (c .node) x ≡ o → Whole (taken tree c x o .events ++ rest (taken tree c x o .config))
     taken-whole x none e = end-whole (some x)
     taken-whole x (some v) e =
         let g = finite .grows (c .node) x v e in
         let d : c .depth + 1 ≤ D = omega (arith, s .sized) in
-        hit-whole (tree .token v) _ (ih (deeper c v) (record { sized = omega (arith, s .sized); deep = d })
-        (omega (arith, less-deeper n D (c .boundary) (c .depth) h d)))
+        ih (deeper c v) (record { sized = omega (arith, s .sized); deep = d }) (omega (arith, less-deeper n D (c .boundary) (c .depth) h d))
 
   whole : (ask : ℕ → ℕ → ℕ) (fuel k : ℕ) → Enough fuel (trace tree n ask fuel k)
   unfolding trace

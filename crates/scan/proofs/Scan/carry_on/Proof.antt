@@ -1,9 +1,8 @@
 -- `carry_on` meets its contract: a refusal hands the state back, and else the call runs on.
-use mathlib.Core.Bool.{false}
 use borrow.Author.Needs.{needs}
 use Rattle.tables.specs.Tables.{Tables}
 use Rattle.trie.specs.Answers.{tables}
-use Rattle.scan.proofs.Laws.Judge.{carry-refused, carry-settles, fine-steady, fine-due}
+use Rattle.scan.proofs.Laws.Judge.{carry-refused, carry-goes, carry-settles}
 use Rattle.scan.proofs.Scan.carry_on.Statement.{statement}
 use Rattle.scan.proofs.Scan.carry_on.Tie as tie
 
@@ -23,10 +22,7 @@ settle-requires : tie.Need-settle-requires
 settle-requires c κs =
     let s = c .before .before .before .before .before .before .before .before in
     let k = c .before .before .judge in
-    let e = c .enum-told .given .1 in (
-      fine-steady (lent s) (s .args .self) false (k .result) e (k .ensures),
-      fine-due (lent s) (s .args .self) false (k .result) e (k .ensures),
-    )
+    carry-goes (lent s) (s .args .self) (k .result) (c .enum-told .given .1) (k .ensures)
 
 returns : tie.Need-returns
 returns c =

@@ -10,7 +10,7 @@ use borrow.Author.Tests.{leb-true, ltb-true, not-true, not-false}
 use Rattle.rules.specs.Laws.Tests.{and-l}
 use Rattle.book.specs.Book.{maxImage}
 use Rattle.trie.specs.Answers.{tables}
-use Rattle.scan.specs.State.{maxNodes, farthest, maxSupplied, countOk, imageOk, shortestOk, nodeOk, boundaryOk, suppliedOk}
+use Rattle.scan.specs.State.{maxNodes, maxShortest, farthest, maxSupplied, countOk, imageOk, shortestOk, nodeOk, boundaryOk, suppliedOk}
 use Rattle.scan.specs.Ways.{paths}
 use Rattle.scan.proofs.Laws.RangesDepth.{passing-out}
 use Rattle.scan.proofs.Laws.Ranges.{leb-not, range-out, range-tests}
@@ -19,7 +19,7 @@ use Rattle.scan.proofs.ranges.in_range.Tie as tie
 
 -- The places where two, four and six tests have passed, each from the next.
 abbrev start : tie.Else2 → tie.Start
-start c = c .before .before .before .before .before .before
+start c = c .before .before .before .before .before .before .before
 
 abbrev second : tie.Else4 → tie.Else2
 second c = c .before .before .before .before
@@ -56,13 +56,13 @@ between-requires c κs = search needs
 
 returns : tie.Need-returns
 returns c =
-    λ label token next.
-    let a = c .before .before .before .before .args in
-    let t = tables (a .parent .now) label token (a .first .now) next in
+    λ label next.
+    let a = c .before .before .before .before .before .args in
+    let t = tables (a .parent .now) label (a .token .now) (a .first .now) next in
     let count = c .before .between .ensures in
-    ⊎-elim (λ w. sym (range-tests t (a .scan) (sym count ∙ not-true _ (w .taken)) refl refl refl refl refl refl refl))
+    ⊎-elim (λ w. sym (range-tests t (a .scan) (sym count ∙ not-true _ (w .taken)) refl refl refl refl refl refl refl refl))
     (λ w. sym (range-tests t (a .scan) (sym count ∙ not-false _ (w .0 .left)) (leb-not (a .scan .image) maxImage (w .2 .taken))
-    refl refl refl refl refl refl))
+    refl refl refl refl refl refl refl))
     (c .if1 .came)
 
 between-requires-2 : tie.Need-between-requires-2
@@ -73,15 +73,15 @@ lies-requires c κs = passing-out (start (c .before .before) .pre) (some-node (c
 
 returns-2 : tie.Need-returns-2
 returns-2 c =
-    λ label token next.
+    λ label next.
     let c2 = c .before .before in
     let a = start c2 .args in
-    let t = tables (a .parent .now) label token (a .first .now) next in
+    let t = tables (a .parent .now) label (a .token .now) (a .first .now) next in
     let shortest = c .before .between2 .ensures in
     ⊎-elim (λ w. sym (range-tests t (a .scan) (two c2 .0) (two c2 .1)
-    (sym shortest ∙ not-true _ (w .taken)) refl refl refl refl refl))
+    (sym shortest ∙ not-true _ (w .taken)) refl refl refl refl refl refl))
     (λ w. sym (range-tests t (a .scan) (two c2 .0) (two c2 .1)
-    (sym shortest ∙ not-false _ (w .0 .left)) (sym (w .1 .ensures) ∙ not-true _ (w .2 .taken)) refl refl refl refl))
+    (sym shortest ∙ not-false _ (w .0 .left)) (sym (w .1 .ensures) ∙ not-true _ (w .2 .taken)) refl refl refl refl refl))
     (c .if3 .came)
 
 add-between : tie.Need-add-between
@@ -94,16 +94,16 @@ between-requires-3 c κs = search needs
 
 returns-3 : tie.Need-returns-3
 returns-3 c =
-    λ label token next.
+    λ label next.
     let c4 = c .before .before .before in
     let c2 = second c4 in
     let a = start c2 .args in
-    let t = tables (a .parent .now) label token (a .first .now) next in
+    let t = tables (a .parent .now) label (a .token .now) (a .first .now) next in
     let boundary = c .before .between3 .ensures in
     ⊎-elim (λ w. sym (range-tests t (a .scan) (two c2 .0) (two c2 .1) (four c4 .0) (four c4 .1)
-    (sym boundary ∙ not-true _ (w .taken)) refl refl refl))
+    (sym boundary ∙ not-true _ (w .taken)) refl refl refl refl))
     (λ w. sym (range-tests t (a .scan) (two c2 .0) (two c2 .1) (four c4 .0) (four c4 .1)
-    (sym boundary ∙ not-false _ (w .0 .left)) (leb-not (a .scan .supplied) maxSupplied (w .2 .taken)) refl refl))
+    (sym boundary ∙ not-false _ (w .0 .left)) (leb-not (a .scan .supplied) maxSupplied (w .2 .taken)) refl refl refl))
     (c .if5 .came)
 
 stretches-ok-requires : tie.Need-stretches-ok-requires
@@ -124,32 +124,46 @@ due-ok-requires c κs =
     let c4 = fourth c6 in
     let c2 = second c4 in
     let s = start c2 .args .scan in (
-      omega (arith, ltb-true (s .node) (s .count) (and-l _ _ (four c4 .1)), passing-out (start c2 .pre) (some-node c2) .1),
+      omega (arith, ltb-true (s .node) (s .count) (and-l _ _ (four c4 .1)), passing-out (start c2 .pre) (some-node c2) .2),
       range-out (s .depth) (s .boundary) (farthest (s .image)) (six c6 .0) .0,
     )
 
 returns-4 : tie.Need-returns-4
 returns-4 c =
-    λ label token next.
-    let c6 = c .before .before .before in
-    let c4 = fourth c6 in
-    let c2 = second c4 in
-    let a = start c2 .args in
-    let t = tables (a .parent .now) label token (a .first .now) next in
-    sym (range-tests t (a .scan) (two c2 .0) (two c2 .1) (four c4 .0) (four c4 .1) (six c6 .0) (six c6 .1)
-    (sym (c .before .before .stretches-ok .ensures) ∙ c .before .if7 .taken) (sym (c .due-ok .ensures)))
-
-returns-5 : tie.Need-returns-5
-returns-5 c =
-    λ label token next.
+    λ label next.
     let c6 = c .before .before in
     let c4 = fourth c6 in
     let c2 = second c4 in
     let a = start c2 .args in
-    let t = tables (a .parent .now) label token (a .first .now) next in
-    c .if7 .left
-    ∙ sym (range-tests t (a .scan) (two c2 .0) (two c2 .1) (four c4 .0) (four c4 .1) (six c6 .0) (six c6 .1)
-    (sym (c .before .stretches-ok .ensures) ∙ c .if7 .left) refl)
+    let t = tables (a .parent .now) label (a .token .now) (a .first .now) next in
+    let stretches = c .before .stretches-ok .ensures in
+    ⊎-elim (λ w. sym (range-tests t (a .scan) (two c2 .0) (two c2 .1) (four c4 .0) (four c4 .1) (six c6 .0) (six c6 .1)
+    (sym stretches ∙ not-true _ (w .taken)) refl refl))
+    (λ w. sym (range-tests t (a .scan) (two c2 .0) (two c2 .1) (four c4 .0) (four c4 .1) (six c6 .0) (six c6 .1)
+    (sym stretches ∙ not-false _ (w .0 .left)) (sym (w .1 .ensures) ∙ not-true _ (w .2 .taken)) refl))
+    (c .if7 .came)
+
+left-ok-requires : tie.Need-left-ok-requires
+left-ok-requires c κs =
+    let c4 = fourth (c .before .before .before .before) in
+    let c2 = second c4 in
+    let s = start c2 .args .scan in
+    let p = passing-out (start c2 .pre) (some-node c2) in (
+      (p .0, p .1),
+      (range-out 1 (s .shortest) maxShortest (four c4 .0) .1, leb-true (s .image) maxImage (two c2 .1)),
+    )
+
+returns-5 : tie.Need-returns-5
+returns-5 c =
+    λ label next.
+    let c6 = c .before .before .before .before .before in
+    let c4 = fourth c6 in
+    let c2 = second c4 in
+    let a = start c2 .args in
+    let t = tables (a .parent .now) label (a .token .now) (a .first .now) next in
+    sym (range-tests t (a .scan) (two c2 .0) (two c2 .1) (four c4 .0) (four c4 .1) (six c6 .0) (six c6 .1)
+    (sym (c .before .before .before .before .stretches-ok .ensures) ∙ not-false _ (c .before .before .before .if7 .left))
+    (sym (c .before .before .due-ok .ensures) ∙ not-false _ (c .before .if8 .left)) (sym (c .left-ok .ensures)))
 
 pub in-range-spec : {M : Type 1} → statement M
 in-range-spec =
@@ -166,4 +180,5 @@ in-range-spec =
     stretches-ok-requires
     due-ok-requires
     returns-4
+    left-ok-requires
     returns-5)

@@ -36,16 +36,16 @@ returns-2 c = let s = c .before .before .before .before .before .before .before 
 sub-at : tie.Need-sub-at
 sub-at c = let s = c .before .before .before .before .before .before .before .before .before .before in
     let a = s .args .scan in
-    omega (arith, s .pre .steady .within .held .inside, eqb-false (a .depth) (a .boundary) (c .before .if3 .left))
+    omega (arith, s .pre .goes .within .held .inside, eqb-false (a .depth) (a .boundary) (c .before .if3 .left))
 
 sub-at-2 : tie.Need-sub-at-2
 sub-at-2 c = let s = c .before .before .before .before .before .before .before .before .before .before .before in
     let a = s .args .scan in
-    omega (arith, s .pre .steady .within .held .inside, eqb-false (a .depth) (a .boundary) (c .before .before .if3 .left))
+    omega (arith, s .pre .goes .within .held .inside, eqb-false (a .depth) (a .boundary) (c .before .before .if3 .left))
 
 recall-requires : tie.Need-recall-requires
 recall-requires c κs = let s = c .before .before .before .before .before .before .before .before .before .before .before .before in
-    let h = s .pre .steady in
+    let h = s .pre .goes in
     (within-remembers (h .ready) (configOf (s .args .scan)) (h .within), slots-five (s .args .scan) (h .slots))
 
 enum-told : tie.Need-enum-told

@@ -1,7 +1,8 @@
--- `end_round` meets its contract: the shift is searched, and what is remembered at the new boundary is kept.
+-- `end_round` meets its contract: the shift is searched, what is remembered at the new boundary is kept, and the hits are left.
 use native.Mathlib.Omega.{arith}
+use borrow.Author.Needs.{needs}
 use Rattle.scan.specs.Shifts.{closingOf}
-use Rattle.scan.proofs.Laws.Steps.{ending-readable, ending-numbers, ending-near, ending-asks, ended-state}
+use Rattle.scan.proofs.Laws.Steps.{ending-readable, ending-numbers, ending-marked, ending-near, ending-asks, ended-state}
 use Rattle.scan.proofs.steps.end_round.Statement.{statement}
 use Rattle.scan.proofs.steps.end_round.Tie as tie
 
@@ -20,13 +21,22 @@ remember-requires c κs =
     let by = c .before .before .shift in
     ending-asks (s .pre) (closingOf (s .args .closing)) (by .result) (by .ensures)
 
+carrier-requires : tie.Need-carrier-requires
+carrier-requires c κs = ending-marked (c .before .before .before .before .before .before .before .pre)
+
+owe-requires : tie.Need-owe-requires
+owe-requires c κs = search needs
+
 returns : tie.Need-returns
 returns c =
-    λ first next.
-    let a = c .before .before .before .before .before .before .before .args in
-    let by = c .before .before .before .shift in
-    ended-state (a .parent .now) (a .label .now) (a .token .now) first next (a .scan) (closingOf (a .closing)) (by .result) (c .remember .result)
-    (by .ensures) (c .remember .ensures)
+    let s = c .before .before .before .before .before .before .before .before .before in
+    let by = c .before .before .before .before .before .shift in
+    let kept = c .before .before .remember in
+    let v = c .before .carrier in
+    ended-state (s .pre) (closingOf (s .args .closing)) (by .result) (kept .result) (v .result) (by .ensures) (kept .ensures) (v .ensures)
+    (c .owe .result) (c .owe .ensures)
 
 pub end-round-spec : {M : Type 1} → statement M
-end-round-spec = tie.close (tie.spec shift-requires add-boundary remember-requires returns)
+end-round-spec =
+    tie.close
+    (tie.spec shift-requires add-boundary remember-requires carrier-requires owe-requires returns)
