@@ -1,4 +1,4 @@
-/* What the benchmarks share: the calls of the crate `probe`, the tables of random tokens, a plain pass over them, and the clock. */
+/* What the benchmarks share: the calls of the crate `probe`, the tables of random tokens, plain passes over books and tables, and the clock. */
 #include <stdint.h>
 #include <stdio.h>
 #include <stdlib.h>
@@ -57,7 +57,13 @@ SHARED void test_tables(void) {
     }
 }
 
-/* Aligned, since where a short loop lies can make it a third slower. */
+/* Plain passes over the bytes of a book and over tables. Aligned, since where a short loop lies can make it a third slower. */
+__attribute__((noinline, aligned(64))) SHARED void pass_bytes(const uint8_t *bytes, size_t length) {
+    uint64_t sum = 0;
+    for (size_t i = 0; i < length; i++) sum = sum * 31 + bytes[i];
+    sink = sum;
+}
+
 __attribute__((noinline, aligned(64))) SHARED void pass_tables(void) {
     uint64_t sum = 0;
     for (size_t v = 0; v < nodes; v++) sum = sum * 31 + parent[v] + label[v] + token[v] + first[v] + next[v];

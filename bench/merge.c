@@ -1,4 +1,4 @@
-/* Times merging two books, beside reading both, in one run. */
+/* Times merging two books and reading both, beside a plain pass over the bytes of both, in one run. */
 #include "common.h"
 
 static uint8_t north[sizeof book], south[sizeof book], out[sizeof book];
@@ -24,6 +24,11 @@ static void expect(told r, size_t number) {
 
 static size_t tokens;
 
+static void pass_both(void) {
+    pass_bytes(north, north_len);
+    pass_bytes(south, south_len);
+}
+
 static void read_both(void) {
     expect(probe_read(north, north_len), tokens);
     expect(probe_read(south, south_len), tokens);
@@ -33,10 +38,10 @@ static void merge(void) { expect(probe_merge(north, north_len, south, south_len,
 
 int main(void) {
     static const size_t cases[][3] = {{128, 64, 0}, {192, 8, 128}, {16, 512, 0}};
-    static void (*const runs[])(void) = {read_both, merge};
-    printf("%-12s %7s %7s %12s %17s\n", "each book", "common", "merged", "read both", "merge/read both");
+    static void (*const runs[])(void) = {pass_both, read_both, merge};
+    printf("%-12s %7s %7s %18s %18s\n", "each book", "common", "merged", "read both/pass", "merge/pass");
     for (size_t i = 0; i < sizeof cases / sizeof *cases; i++) {
-        double took[2];
+        double took[3];
         tokens = cases[i][0];
         make_pair(tokens, cases[i][1], cases[i][2]);
         merge();
@@ -44,9 +49,9 @@ int main(void) {
             fprintf(stderr, "another book was merged\n");
             return 1;
         }
-        least_of(runs, took, 2, 20);
-        printf("%4zu x %-5zu %7zu %7zu %9.3f us %9.3f us %4.1f\n", tokens, cases[i][1], cases[i][2], book_len, took[0] * 1e6, took[1] * 1e6,
-               took[1] / took[0]);
+        least_of(runs, took, 3, 20);
+        printf("%4zu x %-5zu %7zu %7zu %9.3f us %5.2f %9.3f us %5.2f\n", tokens, cases[i][1], cases[i][2], book_len, took[1] * 1e6,
+               took[1] / took[0], took[2] * 1e6, took[2] / took[0]);
     }
     return 0;
 }

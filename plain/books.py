@@ -39,6 +39,45 @@ def limits():
     yield book_of([numbered(0, 1024)]), full, 1, none, 1025
 
 
+def mirrored(bodies):
+    """The bodies, and before them the same read backwards: these set the marks, so that each body is looked for among all before it."""
+    return list(dict.fromkeys([body[::-1] for body in bodies] + bodies))
+
+
+def one_byte_apart(size, places):
+    """A body, and those that differ from it in one byte, at each of these places."""
+    body = bytes(i % 251 for i in range(size))
+    return [body] + [body[:i] + bytes([body[i] ^ 128]) + body[i + 1 :] for i in places]
+
+
+def nearly_equal():
+    """Bodies of books that share few marks: apart in one byte, at each place, of long ones at some; each the start of the next, or of the one
+    before; the same at both ends; apart in their last two bytes, with four hashes. Then 256 with marks of their own: all of one byte, and
+    some that count up at their end."""
+    for size in (2, 3, 5, 8, 9, 15, 16, 17, 18, 33, 64):
+        yield mirrored(one_byte_apart(size, range(size)))
+    yield mirrored(one_byte_apart(128, (*range(20), *range(54, 74), *range(108, 128))))
+    yield mirrored(one_byte_apart(1024, (0, 7, 8, 511, 1015, 1016, 1023)))
+    longer = [bytes(range(1, size + 1)) for size in range(1, 65)]
+    yield mirrored(longer)
+    yield mirrored(longer[::-1])
+    yield [bytes(8) + bytes([i]) + bytes(8) for i in range(256)]
+    yield [b"begin" + bytes(40) + bytes([i, 255 - i]) + bytes(12) + b"close" for i in range(256)]
+    yield [bytes([7] * 62 + [x, y]) for y in range(256) for x in range(256) if (37 * y + x) % 1024 < 4][:256]
+    yield [bytes([i]) for i in range(256)]
+    for size in (2, 8, 64):
+        yield [numbered(i, size) for i in range(256)]
+
+
+def repeats():
+    """Such bodies, which are no repeats; then with the last equal to the first, to a middle one, and to the one before it."""
+    for bodies in nearly_equal():
+        need = 1 + sum(map(len, bodies))
+        yield book_of(bodies), [need] * 5, len(bodies), (5, 0, 0), need
+        for k in sorted({0, (len(bodies) - 1) // 2, len(bodies) - 2}):
+            yield book_of(bodies[:-1] + [bodies[k]]), [need] * 5, 1, (5, 0, 0), 1
+
+
 def few_bodies(rng):
     """Up to five short bodies of three letters."""
     bodies = []
@@ -46,6 +85,12 @@ def few_bodies(rng):
         size = rng.choice([1, 2, 3, 4, 5, 7])
         bodies.append(bytes(rng.choice(b"abc") for _ in range(size)))
     return bodies
+
+
+def alike_bodies(rng):
+    """Bodies that are the same at both ends, some of them the same throughout."""
+    size = rng.randint(17, 20)
+    return [b"12345678" + bytes(rng.choice(b"ab") for _ in range(size - 16)) + b"87654321" for _ in range(rng.randint(1, 9))]
 
 
 def damaged(rng, book):
@@ -62,7 +107,7 @@ def damaged(rng, book):
 
 def arbitrary(rng):
     """A small book, sometimes damaged; tables of any length; one entry damaged."""
-    bodies = few_bodies(rng)
+    bodies = few_bodies(rng) if rng.random() < 0.8 else alike_bodies(rng)
     if rng.random() < 0.6:
         bodies = list(dict.fromkeys(bodies))
     book = damaged(rng, book_of(bodies))
@@ -80,6 +125,7 @@ def arbitrary(rng):
 
 def cases():
     yield from limits()
+    yield from repeats()
     rng = random.Random(11)
     for _ in range(400):
         yield arbitrary(rng)
@@ -141,6 +187,8 @@ def alike():
     yield [b"\0"], [b"\0\0", b"\0", b"\0\0\0"]
     long = numbered(5, 1024)
     yield [long], [b"x" + long[1:], long[:512] + b"x" + long[513:], long[:-1] + b"x", long, long[:512]]
+    ends = [bytes(8) + bytes([i]) + bytes(8) for i in range(192)]
+    yield ends[:128], ends[64:]
     sizes = sorted(KINDS)
     yield [numbered(1, n) for n in sizes], [numbered(1 + n % 2, n) for n in sizes]
 

@@ -17,7 +17,7 @@ import steps
 import tables
 from proved import BYTES, ENTRIES, NUMBERS, Byte, Lent
 
-COUNTS = (407, 770, 10905)  # books, states, and steps from them
+COUNTS = (495, 770, 10905)  # books, states, and steps from them
 FRESH = (3000, 2000, 500)  # random books, states, and whole sweeps
 FILL = 0xA5  # in lent tables
 BEHIND = [7, 0, 2**64 - 1]  # behind the numbers of a state

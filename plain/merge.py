@@ -22,7 +22,7 @@ import tables
 from calls import Differs, told
 from proved import BYTES, HITS, NUMBERS, Byte, Lent
 
-COUNTS = (172, 739)  # pairs, and merges of them
+COUNTS = (173, 748)  # pairs, and merges of them
 FRESH, SWEPT = 4200, 300  # random pairs, and those of them that are swept
 LONGEST = 2000  # bytes of a merged book to sweep with: a step goes over all its nodes
 

@@ -1,3 +1,4 @@
--- The loops of `read` and of `token` over plain lists.
+-- The loops of `read` and of `token` over plain lists, and the marks of `filter`.
 pub mod Read
 pub mod Token
+pub mod Filter

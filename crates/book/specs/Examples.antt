@@ -1,5 +1,5 @@
 -- Samples of refused books, a table for each cause: the cause alone, and beside others so that their order is pinned. And of the bodies of a
--- book, and of a book's bytes.
+-- book, of a book's bytes, and of the marks of bodies.
 use Prim.Native.Nat.{ℕ, suc}
 use mathlib.Core.Path.{_≡_, refl}
 use mathlib.Core.Bool.{Bool, true, false, _&&_}
@@ -8,6 +8,7 @@ use lib.Dec.{eqb}
 use lib.ListN.{length, replicate}
 use Rattle.book.specs.Book.{Reading, accepted, refused, refusalIn, bodiesIn, readFrom, readBook}
 use Rattle.book.specs.Bytes.{kindOf, bookOf}
+use Rattle.book.specs.Filter.{hash, isMarked, marked, Covers}
 use Rattle.book.specs.declared.Refusal.the-variants.{Unfinished, UnknownKind, Trailing, Repeat, OverLimits, NoToken}
 use Rattle.book.specs.Answers.{refusalOf}
 
@@ -103,3 +104,25 @@ long-right = refl
 
 kinds-right : kindOf 64 ∷ kindOf 128 ∷ kindOf 256 ∷ kindOf 512 ∷ kindOf 1024 ∷ [] ≡ 64 ∷ 65 ∷ 66 ∷ 67 ∷ 68 ∷ []
 kinds-right = refl
+
+-- Hashes: of no byte and of one; of a body and the same read backwards; of two that differ in their ninth byte of seventeen.
+hashes-right : hash [] ∷ hash (97 ∷ []) ∷ hash (1 ∷ 2 ∷ 3 ∷ []) ∷ hash (3 ∷ 2 ∷ 1 ∷ []) ∷ hash (replicate 8 1 ++ (5 ∷ replicate 8 1))
+    ∷ hash (replicate 8 1 ++ (6 ∷ replicate 8 1)) ∷ []
+    ≡ 0 ∷ 231 ∷ 163 ∷ 163 ∷ 737 ∷ 737 ∷ []
+hashes-right = refl
+
+-- Mark 64 is the first of the second word, and no other is set with it.
+only-marked : (m : ℕ) → Bool
+only-marked m = isMarked (marked (replicate 16 0) 64) m
+
+marks-right : only-marked 64 ∷ only-marked 0 ∷ only-marked 63 ∷ only-marked 65 ∷ only-marked 128 ∷ [] ≡ true ∷ false ∷ false ∷ false ∷ false ∷ []
+unfolding only-marked
+marks-right = refl
+
+-- Those of its word that are set stay.
+marks-stay : marked (1 ∷ 128 ∷ 1 ∷ []) 70 ≡ 1 ∷ 192 ∷ 1 ∷ []
+marks-stay = refl
+
+-- A filter of all its marks covers a token whose mark was set.
+covers-right : Covers (marked (replicate 16 0) (hash (97 ∷ []))) ((97 ∷ []) ∷ [])
+covers-right = (refl, refl)

@@ -1,8 +1,10 @@
 // The revocation book: its limits, how it is read, what is refused, and where its tokens stand.
+mod filter;
 mod records;
 mod repeats;
 mod sums;
 
+use filter::WORDS;
 use records::body_length;
 use repeats::equal;
 use repeats::repeated;
@@ -140,6 +142,7 @@ pub fn read(book: &[u8]) -> Reading
 {
     let mut at = 0;
     let mut totals = Totals::none();
+    let mut filter = [0u64; WORDS];
     loop {
         if book.len() <= at {
             return Reading::Refused(Refusal::Unfinished(book.len()));
@@ -158,7 +161,7 @@ pub fn read(book: &[u8]) -> Reading
         if totals.over(size) {
             return Reading::Refused(Refusal::OverLimits(at));
         }
-        if repeated(book, at, size) {
+        if repeated(book, at, size, &mut filter) {
             return Reading::Refused(Refusal::Repeat(at));
         }
         totals = totals.with(size);

@@ -1,37 +1,34 @@
-// The test for a repeat: the later body against the body of each record before it.
-use crate::Book;
+// The test for a repeat: the later body against the body of each record before it, where they stand, if the filter does not tell that it is
+// new.
 use crate::contains;
+use crate::filter::WORDS;
+use crate::filter::hash;
+use crate::filter::mark;
 ghost use mathlib.Core.Path.{_≡_};
-ghost use mathlib.Core.List.{List};
+ghost use mathlib.Core.List.{List, [], _∷_, _++_};
 ghost use Prim.Native.Nat.{ℕ, _+_, _≤_};
 ghost use lib.ListN.{length, take, drop};
 ghost use Rattle.rules.specs.Lists.{anyOf, same};
-ghost use Rattle.book.specs.Book.{maxBody};
+ghost use Rattle.book.specs.Filter.{Covers};
 ghost use Rattle.book.specs.Laws.Records.{Upto};
 
-// Whether the body of the record at `at`, of `size` bytes, equals an earlier one. It is compared from a copy.
-pub fn repeated(book: &[u8], at: usize, size: usize) -> bool
-    requires { ⌜ (at + 1 + size ≤ length (now book)) × (size ≤ maxBody) ⌝ }
-    ensures { λ r. ⌜ ((ts : List (List ℕ)) → Upto (now (book .entry)) at ts → r ≡ anyOf (same (take size (drop (at + 1) (now (book .entry))))) ts) ⌝ }
+// Whether the body of the record at `at`, of `size` bytes, equals an earlier one; the filter, which has the marks of those, then has its
+// mark too.
+pub fn repeated(book: &[u8], at: usize, size: usize, filter: &mut [u64; WORDS]) -> bool
+    requires { ⌜ at + 1 + size ≤ length (now book) ⌝ }
+    ensures { λ r. ⌜
+        ((ts : List (List ℕ)) → Upto (now (book .entry)) at ts → Covers (now (filter .entry)) ts
+        → (r ≡ anyOf (same (take size (drop (at + 1) (now (book .entry))))) ts)
+        × Covers (now (filter .exit)) (ts ++ (take size (drop (at + 1) (now (book .entry))) ∷ [])))
+        ⌝ }
 {
     let start = at + 1;
     let end = start + size;
-    let own = copied(&book[start..end]);
-    contains(&book[..at], &own[..size])
-}
-
-// A body in a buffer of the reader's own.
-fn copied(body: &[u8]) -> [u8; Book::BODY]
-    requires { ⌜ length (now body) ≤ maxBody ⌝ }
-    ensures { λ r. ⌜ take (length (now (body .entry))) r ≡ now (body .entry) ⌝ }
-{
-    let mut own = [0u8; Book::BODY];
-    let mut i = 0;
-    while i < body.len() {
-        own[i] = body[i];
-        i += 1;
+    let n = hash(&book[start..end]);
+    if mark(filter, n) {
+        return contains(&book[..at], &book[start..end]);
     }
-    own
+    false
 }
 
 // Whether the two hold the same bytes. Bodies of other lengths cost nothing, and the first difference ends it.

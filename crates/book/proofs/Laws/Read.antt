@@ -12,13 +12,14 @@ use Rattle.rules.specs.Tokens.{total}
 use Rattle.rules.specs.Laws.Tests.{or-nl, or-nr}
 use Rattle.book.specs.Book.{Reading, refused, maxTokens, maxBodies, kindAt, sizeAt, bodyAt, overLimits, repeats, closed, readFrom, readBook, summary}
 use Rattle.book.specs.Answers.{Amounts}
+use Rattle.book.specs.Filter.{Covers}
 use Rattle.book.specs.Laws.Accepted.{total-snoc}
 use Rattle.book.specs.Laws.Taken.{Opened, Taken, opened-length}
 use Rattle.book.specs.Laws.Records.{Upto, upto-more}
 use Rattle.book.specs.declared.Totals.{Totals}
 
--- The reader stands at `at`, with these totals: the rest of its run from here is the whole run.
-pub record Walk (book : List ℕ) (at : ℕ) (t : Totals) : Type 0 where
+-- The reader stands at `at`, with these totals and this filter: the rest of its run from here is the whole run.
+pub record Walk (book : List ℕ) (at : ℕ) (t : Totals) (filter : List ℕ) : Type 0 where
   pub fuel : ℕ
   pub tokens : List (List ℕ)
   pub rest : readFrom book (suc fuel) at tokens ≡ readBook book
@@ -27,9 +28,10 @@ pub record Walk (book : List ℕ) (at : ℕ) (t : Totals) : Type 0 where
   pub upto : Upto book at tokens
   pub amounts : Amounts t tokens
   pub within : total tokens ≤ maxBodies
+  pub covers : Covers filter tokens
 
-pub begins : (book : List ℕ) (t : Totals) → Amounts t [] → Walk book 0 t
-begins book t a = record {
+pub begins : (book : List ℕ) (t : Totals) (filter : List ℕ) → Amounts t [] → Covers filter [] → Walk book 0 t filter
+begins book t filter a c = record {
   fuel = length book;
   tokens = [];
   rest = refl;
@@ -38,6 +40,7 @@ begins book t a = record {
   upto = record { place = omega arith; records = tt };
   amounts = a;
   within = omega arith;
+  covers = c;
 }
 
 -- The limits are kept where `over` says so.
@@ -48,7 +51,7 @@ room tokens bodies size p e = (
   ltb-false maxBodies (bodies + size) (or-nr (leb maxTokens tokens) _ (sym p ∙ e)),
 )
 
-module _ {book : List ℕ} {at : ℕ} {t : Totals} (w : Walk book at t) where
+module _ {book : List ℕ} {at : ℕ} {t : Totals} {filter : List ℕ} (w : Walk book at t filter) where
   -- a way out that answers v
   says : (v : Reading) → readFrom book (suc (w .fuel)) at (w .tokens) ≡ v → summary v ≡ summary (readBook book)
   says v e = ap summary (sym e ∙ w .rest)
@@ -102,16 +105,21 @@ module _ {book : List ℕ} {at : ℕ} {t : Totals} (w : Walk book at t) where
     pub beyond : over ≡ true → refused 5 at ≡ summary (readBook book)
     beyond e = says (refused 5 at) (rw e at opened)
 
-    module _ {repeat : Bool} (q : (ts : List (List ℕ)) → Upto book at ts → repeat ≡ anyOf (same (take size (drop (at + 1) book))) ts)
+    module _ {repeat : Bool} {after : List ℕ}
+        (q : (ts : List (List ℕ)) → Upto book at ts → Covers filter ts
+        → (repeat ≡ anyOf (same (take size (drop (at + 1) book))) ts) × Covers after (ts ++ (take size (drop (at + 1) book) ∷ [])))
         (e : over ≡ false) where
+      told : (repeat ≡ repeats book at (w .tokens)) × Covers after (w .tokens ++ (bodyAt book at ∷ []))
+      told = rw long at (q (w .tokens) (w .upto) (w .covers))
+
       new : repeats book at (w .tokens) ≡ repeat
-      new = sym (rw long at (q (w .tokens) (w .upto)))
+      new = sym (told .0)
 
       pub twice : repeat ≡ true → refused 4 at ≡ summary (readBook book)
       twice f = says (refused 4 at) (rw (e, new ∙ f) at opened)
 
       pub onwards : repeat ≡ false → {u : Totals}
-          → ((ts : List (List ℕ)) (b : List ℕ) → Amounts t ts → size ≡ length b → Amounts u (ts ++ (b ∷ []))) → Walk book (at + (1 + size)) u
+          → ((ts : List (List ℕ)) (b : List ℕ) → Amounts t ts → size ≡ length b → Amounts u (ts ++ (b ∷ []))) → Walk book (at + (1 + size)) u after
       onwards f {u} a =
           let z : at + (1 + size) ≡ at + 1 + sizeAt book at = omega arith in
           rw z (go (w .fuel) (w .enough) (sym (rw (e, new ∙ f) at opened) ∙ w .rest))
@@ -124,7 +132,7 @@ module _ {book : List ℕ} {at : ℕ} {t : Totals} (w : Walk book at t) where
 
           go : (fuel : ℕ) → length book ≤ at + fuel
               → readFrom book fuel (at + 1 + sizeAt book at) (w .tokens ++ (bodyAt book at ∷ [])) ≡ readBook book
-              → Walk book (at + 1 + sizeAt book at) u
+              → Walk book (at + 1 + sizeAt book at) u after
           go zero h e = absurd (omega (arith, o .there))
           go (suc fuel) h e = record {
             fuel = fuel;
@@ -135,4 +143,5 @@ module _ {book : List ℕ} {at : ℕ} {t : Totals} (w : Walk book at t) where
             upto = upto-more book at (w .tokens) taken (w .upto);
             amounts = a (w .tokens) (bodyAt book at) (w .amounts) (long ∙ sym (opened-length book at o));
             within = rw total-snoc (omega (arith, opened-length book at o, taken .small));
+            covers = told .1;
           }

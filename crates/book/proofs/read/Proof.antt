@@ -3,7 +3,7 @@ use borrow.Author.Needs.{needs}
 use Prim.Native.Nat.{ℕ, _-_}
 use native.Mathlib.Omega.{arith}
 use mathlib.Core.List.{List}
-use mathlib.Core.Path.{_∙_}
+use mathlib.Core.Path.{refl, _∙_}
 use lib.ListN.{length}
 use Rattle.book.specs.Laws.Taken.{Opened, opened-range}
 use Rattle.book.proofs.Laws.Read.{Walk, begins, room, missing, unknown, closes, short, beyond, twice, onwards}
@@ -11,16 +11,16 @@ use Rattle.book.proofs.read.Statement.{statement}
 use Rattle.book.proofs.read.Tie as tie
 
 abbrev Inv-loop : tie.InvT-loop
-Inv-loop book at₀ totals₀ at totals = Walk book at totals
+Inv-loop book at₀ totals₀ filter₀ at totals filter = Walk book at totals filter
 
 abbrev μ-loop : tie.MeasureT-loop
-μ-loop book at₀ totals₀ at totals = length book - at
+μ-loop book at₀ totals₀ filter₀ at totals filter = length book - at
 
 none-requires : tie.Need-none-requires Inv-loop μ-loop
 none-requires c κs = search needs
 
 loop-holds : tie.Need-loop-holds Inv-loop μ-loop
-loop-holds c = begins _ _ (c .none .ensures)
+loop-holds c = begins _ _ _ (c .none .ensures) refl
 
 returns : tie.Need-returns Inv-loop μ-loop
 returns c = missing (c .before .loop .inv) (c .if1 .taken)
@@ -80,34 +80,34 @@ returns-5 c =
 
 repeated-requires : tie.Need-repeated-requires Inv-loop μ-loop
 repeated-requires c κs =
-    let d = c .before .before in omega (arith, d .before .body-length .ensures, opened-range (bookOf d) (placeOf d) (opened d), opened d .inside)
+    let d = c .before .before .before in omega (arith, d .before .body-length .ensures, opened d .inside)
 
 returns-6 : tie.Need-returns-6 Inv-loop μ-loop
 returns-6 c =
-    let d = c .before .before .before .before in
+    let d = c .before .before .before .before .before in
     twice (d .before .before .before .before .before .before .loop .inv) (opened d) (d .before .body-length .ensures)
-    (c .before .before .before .over .ensures) (c .before .repeated .ensures) (c .before .before .if5 .left) (c .if6 .taken)
+    (c .before .before .before .before .over .ensures) (c .before .repeated .ensures) (c .before .before .before .if5 .left) (c .if6 .taken)
 
 with-requires : tie.Need-with-requires Inv-loop μ-loop
-with-requires c κs = room _ _ _ (c .before .before .before .over .ensures) (c .before .before .if5 .left)
+with-requires c κs = room _ _ _ (c .before .before .before .before .over .ensures) (c .before .before .before .if5 .left)
 
 add-at : tie.Need-add-at Inv-loop μ-loop
 add-at c =
-    let d = c .before .before .before .before .before in omega (arith, d .before .body-length .ensures, opened d .inside)
+    let d = c .before .before .before .before .before .before in omega (arith, d .before .body-length .ensures, opened d .inside)
 
 add-at-2 : tie.Need-add-at-2 Inv-loop μ-loop
 add-at-2 c =
-    let d = c .before .before .before .before .before in omega (arith, d .before .body-length .ensures, opened d .inside)
+    let d = c .before .before .before .before .before .before in omega (arith, d .before .body-length .ensures, opened d .inside)
 
 loop-less : tie.Need-loop-less Inv-loop μ-loop
-loop-less c = let d = c .before .before .before .before .before in omega (arith, opened d .there)
+loop-less c = let d = c .before .before .before .before .before .before in omega (arith, opened d .there)
 
 loop-again : tie.Need-loop-again Inv-loop μ-loop
 loop-again c =
-    let d = c .before .before .before .before .before in
+    let d = c .before .before .before .before .before .before in
     onwards (d .before .before .before .before .before .before .loop .inv) (opened d) (d .before .body-length .ensures)
-    (c .before .before .before .before .over .ensures) (c .before .before .repeated .ensures) (c .before .before .before .if5 .left) (c .before .if6 .left)
-    (c .with .ensures)
+    (c .before .before .before .before .before .over .ensures) (c .before .before .repeated .ensures) (c .before .before .before .before .if5 .left)
+    (c .before .if6 .left) (c .with .ensures)
 
 pub read-spec : {M : Type 1} → statement M
 read-spec =
