@@ -22,8 +22,10 @@ told probe_test(READ, size_t count);
 told probe_start(size_t *state, size_t state_len, size_t n, size_t shortest, size_t nodes);
 told probe_carry_on(size_t *state, size_t state_len, READ);
 told probe_supply(size_t *state, size_t state_len, READ, uint8_t byte);
+told probe_packet(size_t *state, size_t state_len, READ, const uint8_t *bytes, size_t bytes_len);
 
-enum { ENTRIES = 16385 };
+/* The most entries of a table and bytes of a packet, and how many numbers a state has. */
+enum { ENTRIES = 16385, PACKET = 64, NUMBERS = 25 };
 static uint8_t book[20000];
 static size_t book_len;
 static uint16_t parent[ENTRIES], token[ENTRIES], first[ENTRIES], next[ENTRIES];
@@ -33,19 +35,20 @@ static volatile uint64_t sink;
 
 #define LENT parent, ENTRIES, label, ENTRIES, token, ENTRIES, first, ENTRIES, next, ENTRIES
 
+/* What a benchmark need not use. */
+#define SHARED __attribute__((unused)) static
+
+static uint8_t kind_of(size_t size) { return size <= 64 ? size : size == 128 ? 65 : size == 256 ? 66 : size == 512 ? 67 : 68; }
+
 /* `count` tokens of `size` bytes, random, so that they are different and share few endings. */
-static void make_book(size_t count, size_t size) {
-    uint8_t kind = size <= 64 ? size : size == 128 ? 65 : size == 256 ? 66 : size == 512 ? 67 : 68;
+SHARED void make_book(size_t count, size_t size) {
     book_len = 0;
     for (size_t i = 0; i < count; i++) {
-        book[book_len++] = kind;
+        book[book_len++] = kind_of(size);
         for (size_t j = 0; j < size; j++) book[book_len++] = rand() >> 7;
     }
     book[book_len++] = 0;
 }
-
-/* What a benchmark need not use. */
-#define SHARED __attribute__((unused)) static
 
 SHARED void build_tables(void) { nodes = probe_build(book, book_len, LENT).numbers[0]; }
 

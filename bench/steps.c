@@ -1,4 +1,4 @@
-/* Times one step of a sweep by single bytes, beside a plain pass over as many nodes, in one run. */
+/* Times one step of a sweep by single bytes, and one by a packet, beside a plain pass over as many nodes, in one run. */
 #include "common.h"
 
 /* Tokens of one size, so that S is the size, and the nodes 1 to `size` are the first token's. */
@@ -26,7 +26,7 @@ static void asked(told r, size_t low, size_t high) {
 }
 
 /* The numbers of a state (crates/probe/specs/States.antt): at the start, with a byte due there, and with one due at a token's last. */
-enum { NUMBERS = 25, NODE = 4, DEPTH, DUE };
+enum { NODE = 4, DEPTH, DUE };
 static size_t fresh[NUMBERS], due_first[NUMBERS], due_last[NUMBERS];
 
 static void make_states(void) {
@@ -42,6 +42,15 @@ static told supplied(const size_t *from, uint8_t byte) {
     size_t state[NUMBERS];
     memcpy(state, from, sizeof state);
     return probe_supply(state, NUMBERS, LENT, byte);
+}
+
+/* The first token's bytes from its last one on, as many as a packet has room for and one of them still wanted after it. */
+static uint8_t packet[PACKET];
+static size_t packet_len;
+
+static void make_packet(void) {
+    packet_len = size - 1 < PACKET ? size - 1 : PACKET;
+    memcpy(packet, label + 1, packet_len);
 }
 
 /* A state as large as the proved one, and what a step hands back. */
@@ -80,29 +89,53 @@ static void look(void) {
 /* The first byte matches: on to a child, and a look at the place before. */
 static void match(void) { asked(supplied(due_first, label[1]), size - 2, size - 1); }
 
+/* The packet's bytes match, and are all used: on down the token, and a look at the place before. */
+static void match_packet(void) {
+    size_t state[NUMBERS];
+    memcpy(state, due_first, sizeof state);
+    told r = probe_packet(state, NUMBERS, LENT, packet, packet_len);
+    asked(r, size - 1 - packet_len, size - packet_len);
+    if (r.numbers[3] == packet_len) return;
+    fprintf(stderr, "of %zu bytes %zu were used\n", packet_len, r.numbers[3]);
+    exit(1);
+}
+
 /* The first byte matches no token: the round ends, rule 5 goes over all tokens, and the next round looks. */
 static void miss(void) { asked(supplied(due_first, stray_first), size, 2 * size); }
 
 /* The same at the last byte of a token. */
 static void late(void) { asked(supplied(due_last, stray_last), size, 2 * size); }
 
+static void prepare(size_t count) {
+    make_book(count, size);
+    build_tables();
+    make_states();
+    make_packet();
+    stray_first = stray(0);
+    stray_last = stray(size - 1);
+}
+
+enum { PASS, MATCH = 4, STEPS = 7, BY_PACKET = STEPS, RUNS };
+static void (*const runs[RUNS])(void) = {pass_tables, bare_call, test_tables, look, match, miss, late, match_packet};
+
+/* Last, how many times as much the packet's bytes cost singly. */
+static void row(size_t count) {
+    double took[RUNS];
+    least(runs, took, RUNS);
+    printf("%4zu x %-5zu %7zu %9.3f us", count, size, nodes, took[PASS] * 1e6);
+    for (size_t j = 1; j < STEPS; j++) printf(" %9.3f us %4.1f", took[j] * 1e6, took[j] / took[PASS]);
+    printf(" %7zu %9.3f us %4.2f %13.1f\n", packet_len, took[BY_PACKET] * 1e6, took[BY_PACKET] / took[MATCH],
+           packet_len * took[MATCH] / took[BY_PACKET]);
+}
+
 int main(void) {
     static const size_t cases[][2] = {{1, 5}, {16, 64}, {128, 8}, {16, 1024}, {256, 64}};
-    static void (*const runs[])(void) = {pass_tables, bare_call, test_tables, look, match, miss, late};
-    printf("%-12s %7s %12s %17s %17s %17s %17s %17s %17s\n", "book", "nodes", "pass", "bare call/pass", "test/pass", "look/pass",
-           "match/pass", "miss/pass", "late miss/pass");
+    printf("%-12s %7s %12s %17s %17s %17s %17s %17s %17s %7s %17s %13s\n", "book", "nodes", "pass", "bare call/pass", "test/pass",
+           "look/pass", "match/pass", "miss/pass", "late miss/pass", "bytes", "packet/match", "singly/packet");
     for (size_t i = 0; i < sizeof cases / sizeof *cases; i++) {
-        double took[7];
         size = cases[i][1];
-        make_book(cases[i][0], size);
-        build_tables();
-        make_states();
-        stray_first = stray(0);
-        stray_last = stray(size - 1);
-        least(runs, took, 7);
-        printf("%4zu x %-5zu %7zu %9.3f us", cases[i][0], size, nodes, took[0] * 1e6);
-        for (size_t j = 1; j < 7; j++) printf(" %9.3f us %4.1f", took[j] * 1e6, took[j] / took[0]);
-        printf("\n");
+        prepare(cases[i][0]);
+        row(cases[i][0]);
     }
     return 0;
 }

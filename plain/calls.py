@@ -1,5 +1,5 @@
 #!/usr/bin/env python3
-"""Compares the proved calls with the plain readings of document 01: every answer, and all that the lent tables and states then hold, with
+"""Compares the proved calls with the plain readings of the papers: every answer, and all that the lent tables and states then hold, with
 what lies around them. The books of books.py and the states of steps.py come first, and must be as many as COUNTS says and meet all that
 `steps.wanted` names; then as many fresh random ones. Fails at the first difference and says where.
 
@@ -17,12 +17,13 @@ import steps
 import tables
 from proved import BYTES, ENTRIES, NUMBERS, Byte, Lent
 
-COUNTS = (495, 770, 10905)  # books, states, and steps from them
-FRESH = (3000, 2000, 500)  # random books, states, and whole sweeps
+COUNTS = (495, 2064, 24237)  # books, states, and steps from them
+FRESH = (3000, 2000, 800)  # random books, states, and whole sweeps
 FILL = 0xA5  # in lent tables
 BEHIND = [7, 0, 2**64 - 1]  # behind the numbers of a state
 FAR = 2**64 - 1
 NO_STATE = (4, 0, 0, 0, 0)
+STEPS = (steps.CARRY, 97, b"", b"a", b"a" * steps.RUN, b"a" * (steps.RUN + 1))  # tried on what is no state
 KIND = {"refused": 0, "fetch": 1, "hit": 2, "done": 3}
 
 
@@ -136,9 +137,18 @@ def walks(lists, slices, count, node, byte):
 # States: starting and stepping
 
 
+def step_told(what, said, used):
+    """An answer in numbers; a packet's last one is how many bytes it used."""
+    word, *values = said.split()
+    answer = told(KIND[word], *map(int, values))
+    return (*answer[:4], used) if isinstance(what, bytes) else answer
+
+
 def step(state, slices, what, wanted, after=()):
     if what == steps.CARRY:
         expect("probe_carry_on", [state, *slices], wanted, after)
+    elif isinstance(what, bytes):
+        expect("probe_packet", [state, *slices, Lent(BYTES, what)], wanted, after)
     else:
         expect("probe_supply", [state, *slices, Byte(what)], wanted, after)
 
@@ -147,8 +157,8 @@ def state_case(lists, state, calls):
     slices, state = lend(lists), copy.deepcopy(state)
     lent = Lent(NUMBERS, state.numbers() + BEHIND)
     for what in calls:
-        word, *values = steps.call(lists, state, what).split()
-        step(lent, slices, what, told(KIND[word], *map(int, values)), {0: state.numbers() + BEHIND}.items())
+        said, used = steps.call(lists, state, what)
+        step(lent, slices, what, step_told(what, said, used), {0: state.numbers() + BEHIND}.items())
 
 
 def start_case(n, shortest, nodes):
@@ -174,7 +184,7 @@ def starts():
 def no_states():
     lists, shortest, count = steps.built([b"axbbx"])
     numbers = steps.State(8, shortest, count).numbers()
-    for what in (steps.CARRY, 97):
+    for what in STEPS:
         for n in range(steps.SIZE):
             yield no_state, (lists, numbers[:n], what)
         for due in (2, 256, FAR):
@@ -188,11 +198,11 @@ def fresh(rng):
     for _ in range(FRESH[0]):
         yield book_case, books.arbitrary(rng)
     for i in range(FRESH[1] + FRESH[2]):
-        case = steps.arbitrary(rng) if i < FRESH[1] else steps.sweep(steps.some_bodies(rng), steps.some_image(rng))[:3]
+        case = steps.arbitrary(rng) if i < FRESH[1] else steps.some_sweep(rng)
         yield state_case, case
         numbers = case[1].numbers() + BEHIND
         cut = numbers[: rng.randrange(steps.SIZE)] if rng.random() < 0.5 else numbers[:6] + [rng.choice([2, 3, FAR])] + numbers[7:]
-        yield no_state, (case[0], cut, rng.choice([steps.CARRY, 97]))
+        yield no_state, (case[0], cut, rng.choice(STEPS))
         yield start_case, (rng.choice([rng.randint(0, 99), steps.IMAGE + rng.randint(-1, 1)]), rng.randint(0, 2000), rng.randint(0, 20000))
 
 

@@ -1,7 +1,8 @@
-"""The sweep by single bytes, plainly, from the papers alone, and states to step from.
+"""The sweep by single bytes and by packets, plainly, from the papers alone, and states to step from.
 
-A case is five tables, a state and the calls made from it: a byte to supply, or CARRY to carry on. `seen` counts the causes of refusals 9,
-10 and 11, the ends of ranges and the kinds of answers that calls met; `wanted` names those that some case must meet.
+A case is five tables, a state and the calls made from it: CARRY to carry on, a byte to supply, or a packet, which is a run of bytes. `seen`
+counts the causes of refusals 9, 10, 11 and 15, the ends of ranges, the kinds of answers and the ways packets ended that calls met; `wanted`
+names those that some case must meet.
 """
 import collections
 import copy
@@ -11,7 +12,7 @@ import random
 import tables
 
 CARRY = 256
-NODES, IMAGE, BODY, MOST = 16385, 16777216, 1024, 1000000000
+NODES, IMAGE, BODY, MOST, RUN = 16385, 16777216, 1024, 1000000000, 64
 SIZE = 25  # numbers of a state
 TABLES = ("parent", "label", "token", "first child", "next sibling")
 
@@ -93,7 +94,7 @@ def shift(lists, s, closing):
 
 
 def end_round(lists, s, last, closing=None):
-    """Rules 4 to 6; the round's hits are left then. `last` says when its last byte came in."""
+    """Rules 4 to 6; the round's hits are left then. `last` says how its last byte came in."""
     start, b = s.boundary - s.depth, s.boundary
     s.hit = next(carriers(lists, s.node), 0)
     s.end = b if s.hit else 0
@@ -151,6 +152,25 @@ def settle(lists, s, last="before the call"):
     return answered(lists, s)
 
 
+def supply(lists, s, x, last="supplied"):
+    s.supplied = min(MOST, s.supplied + 1)
+    take(lists, s, x, last)
+    return settle(lists, s, last)
+
+
+def packet(lists, s, run):
+    """The answer, and how many bytes are used. Each is for the place below the one before it, and is used while its place is wanted."""
+    place, used, before = s.boundary - 1 - s.depth, 0, s.supplied
+    said = f"fetch {place}"
+    while used < len(run) and said == f"fetch {place - used}":
+        seen["a packet on past a token"] += used > 0 and lists[2][s.node] > 0
+        said = supply(lists, s, run[used], "of a packet")
+        used += 1
+    note_packet(run, used, place, said)
+    note_count(before, used)
+    return said, used
+
+
 # The refusals, each by all causes that hold: a name for each
 
 
@@ -184,9 +204,7 @@ def broken(lists, count):
     """The value of refusal 9 and its causes at that node, or None and none."""
     short = [cause for name, table in zip(TABLES, lists) for cause in off(f"9: table length, {name},", count, len(table), 2**64)]
     if short:
-        sizes = [len(table) for table in lists]
-        seen[f"9: shortest of {len(short)}, {TABLES[sizes.index(min(sizes))]}"] += 1
-        return min(sizes), short
+        return min(map(len, lists)), short
     depths = []
     for v in range(count):
         up = lists[0][v]
@@ -301,10 +319,14 @@ WITHIN = (
     "b's distance from the end least", "b's distance from the end greatest", "stretch's right with a hit left greatest",
     "three hits left", "68 hits left", "hits left with one token number", "a hit left when b > N", "four stretches and a hit left",
 )
-KINDS = ("carrying on", "supplying")
-# How a round ends, and when its last byte came in; what a hit is, by whether one was left before the call, and one is after it.
-ENDS, LAST = ("a closing byte", "no child", "the image's start"), ("supplied", "remembered", "before the call")
+KINDS = ("carrying on", "supplying", "a packet")
+# How a round ends, and how its last byte came in; what a hit is, by whether one was left before the call, and one is after it.
+ENDS = ("a closing byte", "no child", "the image's start")
+LAST = ("supplied", "of a packet", "remembered", "before the call")
 HITS = (("the only hit of a round", "the first of several hits"), ("the last of several hits", "one of several hits"))
+# Whether a packet has bytes left, how many it used, and what it answered, seen from the place of the last one used.
+RESTS, USED = ("used whole", "with bytes left"), ("no byte", "one byte", "several bytes")
+NEXT, THEN = "fetch the next place down", ("hit", "done", "fetch a higher place", "fetch a place below a stretch")
 
 
 def wanted():
@@ -314,13 +336,30 @@ def wanted():
         yield from (f"{what}, {kind}" for what in ("11", "9 before 10", "9 before 11", "10 before 11", "10 near 2^64"))
         yield from (f"{what}, {kind}" for what in ("fetch", "done", *HITS[False], "hit when b > N"))
     yield from (f"{what}, carrying on" for what in HITS[True])
-    yield from ("11 with a hit left, supplying", "hit after hit", "fetch after hit", "done after hit", "done after done")
+    yield from (f"11 with a hit left, {kind}" for kind in KINDS[1:])
+    yield from ("hit after hit", "fetch after hit", "done after hit", "done after done")
     for how, last in itertools.product(ENDS, LAST):
         if (how, last) != ("a closing byte", "before the call"):
-            yield f"hits of a round ended by {how}, its last byte {last}"
+            yield from (f"{hits} of a round ended by {how}, its last byte {last}" for hits in ("hits", "no hit"))
+    yield from wanted_of_packets()
     yield from (f"9: shortest of 4, {name}" for name in TABLES)
     yield from (f"within: {what}" for what in WITHIN)
     yield from ("rule 2: remembered", "rule 4: forgotten", "rule 4: cut", "rule 6: not kept", "rule 6: just kept")
+
+
+def wanted_of_packets():
+    for due in ("a byte due", "no byte due"):
+        yield from (f"15 before {number}, {due}" for number in (9, 10))
+    yield from ("15 before 11, no byte due", "15 before 11 with a hit left", "15 alone, a byte due")
+    yield from (f"15 with a packet of {n} bytes" for n in (RUN + 1, RUN + 2, 200, 1000))
+    yield from (f"{number} with a packet of {n} bytes" for number in (9, 10, 11) for n in (0, RUN))
+    yield from (f"a packet of {n} bytes {rest}" for n in (RUN - 1, RUN) for rest in RESTS)
+    yield from (f"a packet used whole, {used} used, then {NEXT}" for used in USED)
+    for rest in RESTS:
+        yield from (f"a packet {rest}, {used} used, then {then}" for used in USED[1:] for then in THEN)
+        yield from (f"a packet {rest} at place 0, then {then}" for then in THEN[:3])
+    yield "a packet on past a token"
+    yield from (f"a packet {way} the count's limit" for way in ("at", "up to", "past", "from one below past"))
 
 
 def note(causes, kind):
@@ -329,12 +368,42 @@ def note(causes, kind):
         seen[f"{cause}, alone, {kind}"] += len(causes) == 1
 
 
+def note_short(lists, count):
+    """Which table is the shortest, where some are too short."""
+    sizes = [len(table) for table in lists]
+    seen[f"9: shortest of {sum(n < count for n in sizes)}, {TABLES[sizes.index(min(sizes))]}"] += min(sizes) < count
+
+
 def note_end(lists, s, last, closing):
-    """How a round ended that leaves hits; it still stands where it ended."""
-    if s.hit == 0:
-        return
+    """How a round ended; it still stands where it ended."""
     for how, holds in zip(ENDS, (closing is not None, not lists[3][s.node], s.depth == s.boundary)):
-        seen[f"hits of a round ended by {how}, its last byte {last}"] += holds
+        seen[f"{'hits' if s.hit else 'no hit'} of a round ended by {how}, its last byte {last}"] += holds
+
+
+def follows(last, said):
+    """A packet's answer, seen from the place of the last byte used."""
+    word, *values = said.split()
+    if word != "fetch":
+        return word
+    place = int(values[0])
+    return NEXT if place == last - 1 else THEN[2 if place > last else 3]
+
+
+def note_packet(run, used, place, said):
+    """How a packet ended whose first byte was for this place."""
+    last = place + 1 - used
+    rest, then = RESTS[used < len(run)], follows(last, said)
+    seen[f"a packet of {len(run)} bytes {rest}"] += 1
+    seen[f"a packet {rest}, {USED[min(used, 2)]} used, then {then}"] += 1
+    seen[f"a packet {rest} at place 0, then {then}"] += used > 0 and last == 0
+
+
+def note_count(before, used):
+    """How a packet stands to the greatest count of bytes supplied."""
+    seen["a packet at the count's limit"] += before == MOST and used > 0
+    seen["a packet up to the count's limit"] += before < MOST == before + used and used > 1
+    seen["a packet past the count's limit"] += before < MOST < before + used
+    seen["a packet from one below past the count's limit"] += before == MOST - 1 and used > 1
 
 
 def note_left(lists, s):
@@ -369,45 +438,75 @@ def note_within(lists, s):
     note_left(lists, s)
 
 
-def refusal(lists, state, kind):
-    """The refusal, if there is one."""
-    out_of_turn = state.due != (kind == "supplying")
+def note_refusal(lists, state, kind, number, causes):
+    """What led to the first of 9, 10 and 11, or to none of them."""
+    early = out_of_turn(state, kind)
+    note(causes, kind)
+    if number == 9:
+        note_short(lists, state.count)
+        seen[f"9 before 10, {kind}"] += state.shortest == 0
+        seen[f"9 before 11, {kind}"] += early
+    elif number == 10:
+        seen[f"10 before 11, {kind}"] += early
+        seen[f"10 near 2^64, {kind}"] += max(state.numbers()) >= 2**63
+    else:
+        note_within(lists, state)
+        seen[f"11, {kind}"] += early
+        seen[f"11 with a hit left, {kind}"] += early and state.hit > 0
+
+
+def note_long(state, number):
+    """What refusal 15 came before: the first of the others, or 0."""
+    due = "a byte due" if state.due else "no byte due"
+    seen[f"15 before {number}, {due}" if number else f"15 alone, {due}"] += 1
+    seen["15 before 11 with a hit left"] += number == 11 and state.hit > 0
+
+
+def kind_of(what):
+    return KINDS[2] if isinstance(what, bytes) else KINDS[what != CARRY]
+
+
+def out_of_turn(state, kind):
+    return state.due == (kind == "carrying on")
+
+
+def step_refusal(lists, state, kind):
+    """The first of the refusals 9, 10 and 11, or 0, its value and its causes."""
     value, causes = broken(lists, state.count)
     assert value == tables.first_break(lists, state.count)
     if causes:
-        note(causes, kind)
-        seen[f"9 before 10, {kind}"] += state.shortest == 0
-        seen[f"9 before 11, {kind}"] += out_of_turn
-        return f"refused 9 {value}"
+        return 9, value, causes
     causes = range_causes(lists, state)
-    if causes:
-        note(causes, kind)
-        seen[f"10 before 11, {kind}"] += out_of_turn
-        seen[f"10 near 2^64, {kind}"] += max(state.numbers()) >= 2**63
-        return "refused 10 0"
-    note_within(lists, state)
-    if out_of_turn:
-        seen[f"11, {kind}"] += 1
-        seen[f"11 with a hit left, {kind}"] += state.hit > 0
-        return "refused 11 0"
-    return None
+    return 10 if causes else 11 if out_of_turn(state, kind) else 0, 0, causes
+
+
+def refusal(lists, state, what):
+    """The number of the refusal, or 0, and its value."""
+    kind = kind_of(what)
+    number, value, causes = step_refusal(lists, state, kind)
+    if kind == "a packet" and len(what) > RUN:
+        note_long(state, number)
+        number, value = 15, 0
+    else:
+        note_refusal(lists, state, kind, number, causes)
+    if kind == "a packet":
+        seen[f"{number} with a packet of {len(what)} bytes"] += 1
+    return number, value
 
 
 def call(lists, state, what):
-    """The answer; the state is changed in place where the call is not refused, and stays in its ranges."""
-    kind, left = KINDS[what != CARRY], state.hit > 0
-    refused = refusal(lists, state, kind)
-    if refused:
-        return refused
-    if what == CARRY:
-        said = settle(lists, state)
+    """The answer, and how many bytes it used; the state is changed in place where the call is not refused, and stays in its ranges."""
+    kind, left = kind_of(what), state.hit > 0
+    number, value = refusal(lists, state, what)
+    if number:
+        return f"refused {number} {value}", 0
+    if kind == "a packet":
+        said, used = packet(lists, state, what)
     else:
-        state.supplied = min(MOST, state.supplied + 1)
-        take(lists, state, what)
-        said = settle(lists, state, "supplied")
+        said, used = (settle(lists, state), 0) if what == CARRY else (supply(lists, state, what), 1)
     assert not range_causes(lists, state)
     note_answer(state, said.split()[0], kind, left)
-    return said
+    return said, used
 
 
 # The cases: tables, a state, and calls
@@ -424,28 +523,46 @@ def search(words, image):
     return [(end, number) for end in range(len(image) + 1) for number, body in order if image[:end].endswith(body)]
 
 
-def followed(lists, state, image):
-    """The calls of a sweep of the image from the state on, and the answers."""
-    calls, answers, what = [], [], CARRY
+def followed(lists, state, reply):
+    """The calls of a sweep from the state on, the answers and the places fetched; what `reply` gives for a place is supplied there."""
+    calls, answers, places, what, place = [], [], [], CARRY, 0
     while answers[-1:] != ["done"]:
+        said, used = call(lists, state, what)
         calls.append(what)
-        answers.append(call(lists, state, what))
-        word, value, *_ = answers[-1].split() + [None]
+        answers.append(said)
+        places += range(place, place - used, -1)
+        word, *values = said.split()
         assert word != "refused"
-        what = image[int(value)] if word == "fetch" else CARRY
-    return calls, answers
+        if word == "fetch":
+            place = int(values[0])
+        what = reply(place) if word == "fetch" else CARRY
+    return calls, answers, places
 
 
-def swept(lists, words, image):
+def swept(lists, words, image, reply=None):
     """Tables with these words, first state, and the calls of a whole sweep, whose hits are those of a search; and the places fetched."""
     state = State(len(image), min(len(body) for _, body in words), len(lists[0]))
-    calls, answers = followed(lists, copy.deepcopy(state), image)
+    calls, answers, places = followed(lists, copy.deepcopy(state), reply or image.__getitem__)
     assert [said for said in answers if said.startswith("hit")] == [f"hit {end} {number}" for end, number in search(words, image)]
-    return lists, state, calls, [int(said.split()[1]) for said in answers if said.startswith("fetch")]
+    return lists, state, calls, places
 
 
-def sweep(bodies, image):
-    return swept(tables.build(bodies), list(enumerate(bodies, 1)), image)
+def run_at(image, place, size):
+    """The run that is sent for a place: the byte there, the one below, and so on; a shorter one at the image's start."""
+    return image[max(0, place + 1 - size) : place + 1][::-1]
+
+
+def swept_by_packets(lists, words, image, size):
+    """The same by packets, each as long as `size` then says; the places fetched are those of the sweep by single bytes."""
+    case = swept(lists, words, image, lambda place: run_at(image, place, size()))
+    assert case[3] == swept(lists, words, image)[3]
+    return case
+
+
+def sweep(bodies, image, size=None):
+    """By single bytes, or by packets as long as `size` says."""
+    given = tables.build(bodies), list(enumerate(bodies, 1)), image
+    return swept_by_packets(*given, size) if size else swept(*given)
 
 
 def samples():
@@ -466,8 +583,9 @@ def samples():
     ):
         lists, state, calls, places = sweep(bodies, image)
         assert fetched is None or places == list(map(int, fetched.split()))
-        yield lists, state, calls + [CARRY, 7]
+        yield lists, state, calls + [CARRY, 7, b"\7"]
         yield [l + [9, 9] for l in lists], state, calls
+        yield from (sweep(bodies, image, lambda: size)[:3] for size in (1, 2, 3, RUN))
 
 
 def chain(n):
@@ -475,7 +593,7 @@ def chain(n):
     return tables.build([b"a" * n])
 
 
-BOTH = [CARRY, 97]
+EACH = [CARRY, 97, b"ab", b"", b"a" * RUN, b"a" * (RUN + 1)]
 
 
 def damaged():
@@ -491,23 +609,23 @@ def damaged():
         lists = copy.deepcopy(good)
         for k, at, value in change:
             lists[k][at] = value
-        yield lists, State(9, 2, 6), BOTH
-        yield lists, State(9, 2, 6, due=True), BOTH
-        yield lists, State(9, 2, 6, 4, end=3, hit=4), BOTH + BOTH
+        yield lists, State(9, 2, 6), EACH
+        yield lists, State(9, 2, 6, due=True), EACH
+        yield lists, State(9, 2, 6, 4, end=3, hit=4), EACH + EACH
     for k in range(5):
-        yield good[:k] + [good[k][:5]] + good[k + 1 :], State(9, 2, 6), BOTH
-        yield [l[: 2 + (i + k) % 5] for i, l in enumerate(good)], State(9, 0, 6), BOTH
-    yield good, State(9, 2, 8), BOTH
+        yield good[:k] + [good[k][:5]] + good[k + 1 :], State(9, 2, 6), EACH
+        yield [l[: 2 + (i + k) % 5] for i, l in enumerate(good)], State(9, 0, 6), EACH
+    yield good, State(9, 2, 8), EACH
     spoilt = copy.deepcopy(good)
     spoilt[label][0] = 1
-    yield spoilt, State(9, 0, 6, due=True), BOTH
-    yield spoilt, State(9, 0, 0), BOTH
-    yield spoilt, State(9, 2, 6, 4, end=3, hit=2**64 - 1), BOTH
+    yield spoilt, State(9, 0, 6, due=True), EACH
+    yield spoilt, State(9, 0, 0), EACH
+    yield spoilt, State(9, 2, 6, 4, end=3, hit=2**64 - 1), EACH
     deepest = chain(1024)
-    yield deepest, State(2000, 1024, 1025), BOTH
+    yield deepest, State(2000, 1024, 1025), EACH
     deeper = [l + [x] for l, x in zip(deepest, (1024, 97, 0, 0, 0))]
     deeper[first][1024] = 1025
-    yield deeper, State(2000, 1024, 1026), BOTH
+    yield deeper, State(2000, 1024, 1026), EACH
 
 
 def ranges():
@@ -537,12 +655,12 @@ def ranges():
         dict(depth=far), dict(depth=far, boundary=far), dict(supplied=far), dict(count=far), dict(slots=[(0, far, 20)]),
         dict(slots=[(far, far, far)]), dict(slots=[(0, 20, far)]), dict(due=True, boundary=far, slots=[(far - 20, far, 20)]),
     ):
-        yield lists, State(**(base | changes)), BOTH + [98, CARRY, 97, CARRY]
+        yield lists, State(**(base | changes)), EACH + [98, CARRY, 97, CARRY, b"ab", CARRY]
 
 
 # Tokens of as many a, the longest first, so that node v is v deep; and calls that answer hits left, in turn and out of it.
 INNER = (40, 1, 20, 2, 5)
-LEFT = [97, CARRY, 98, CARRY, CARRY, 97, CARRY, CARRY, 97, 98, CARRY]
+LEFT = [97, b"a", CARRY, 98, CARRY, CARRY, 97, CARRY, CARRY, 97, 98, CARRY, b"aaaaab", b"a" * (RUN + 1), CARRY, b"ba"]
 
 
 def hits_left():
@@ -580,7 +698,7 @@ def hits_left():
         dict(hit=2**16 + 20), dict(hit=2**32 + 20), dict(end=2**32 + 44), dict(end=2**32, hit=0), dict(due=True, end=far, hit=far),
     ):
         yield lists, State(**(base | changes)), LEFT
-    yield inner, State(**(base | dict(hit=41))), BOTH
+    yield inner, State(**(base | dict(hit=41))), EACH
     yield inner, State(**(base | dict(hit=40, image=44))), LEFT
 
 
@@ -595,21 +713,42 @@ def standing():
         for image in (b - 1, b, b + 30):
             yield lists, State(image, 1, count, b, d, d, slots=slots), [CARRY, 98] + LEFT
             yield lists, State(image, 3, count, b, d, d, slots=slots), [CARRY, 97] + LEFT
+            yield lists, State(image, 2, count, b, d, d, slots=slots), [CARRY, b"aab", CARRY, b"aaaaaab", CARRY] + LEFT
+
+
+def packets():
+    """Packets of many lengths over a long token, alone or with others inside it: about its ends, over stretches, at the count's limit."""
+    runs = [b"a" * n for n in (0, 1, 2, 5, 6, 36, 37, 63, 64, 65, 66, 200, 1000)]
+    runs += [b"b", b"ab", b"ba", b"aaaaab", b"aaaab" + bytes(59), b"a" * 35 + b"ba", b"a" * 63 + b"b", b"b" + b"a" * 64]
+    for lengths in ((100,), (100, 20, 64, 36)):
+        lists, shortest, count = built([b"a" * n for n in lengths])
+        base = dict(image=300, shortest=shortest, count=count, boundary=100, due=True)
+        for changes in (
+            dict(), dict(node=35, depth=35), dict(node=36, depth=36), dict(node=37, depth=37), dict(node=99, depth=99), dict(boundary=170),
+            dict(image=100), dict(image=100, node=36, depth=36), dict(image=100, node=99, depth=99), dict(image=170, boundary=170),
+            dict(boundary=36), dict(image=36, boundary=36), dict(boundary=1), dict(image=1, boundary=1),
+            dict(boundary=65, slots=[(20, 60, 40)]), dict(boundary=62, slots=[(52, 60, 8)]), dict(boundary=61, slots=[(56, 60, 4)]),
+            dict(boundary=61, slots=[(16, 56, 40), (56, 60, 4)]), dict(boundary=66, slots=[(0, 60, 60)]),
+            dict(boundary=61, slots=[(0, 60, 60)]), dict(image=61, boundary=61, slots=[(0, 60, 60)]),
+            dict(boundary=105, slots=[(0, 100, 100)]), dict(supplied=MOST), dict(supplied=MOST - 1), dict(supplied=MOST - 2),
+            dict(supplied=MOST - 63), dict(supplied=MOST - 64),
+        ):
+            yield from ((lists, State(**(base | changes)), [run, b"aa", CARRY, b"", b"a" * RUN, CARRY]) for run in runs)
 
 
 def large():
     """The node count at its ends and one further; as many stretches as a state can have, and one more; as many hits as can be left."""
     flat = [[0] * (NODES + 2)] * 5
     for count in (1, NODES, NODES + 1):
-        yield flat, State(3, 1, count), BOTH
+        yield flat, State(3, 1, count), EACH
     four = [(0, 500, 500), (500, 600, 100), (600, 620, 20), (620, 624, 4)]
     long = chain(500)
-    yield long, State(700, 500, 501, 625, slots=four), BOTH + BOTH
-    yield long, State(700, 500, 501, 625, slots=four + [(624, 625, 1)]), BOTH
-    yield long, State(700, 500, 501, 625, slots=four, end=624, hit=500), BOTH + BOTH
+    yield long, State(700, 500, 501, 625, slots=four), EACH + EACH
+    yield long, State(700, 500, 501, 625, slots=four + [(624, 625, 1)]), EACH
+    yield long, State(700, 500, 501, 625, slots=four, end=624, hit=500), EACH + EACH
     every = tables.build([b"a" * n for n in tables.LENGTHS.values()])
     yield every, State(1024, 1, 1025, 1025, end=1024, hit=1024), [CARRY, 97] + [CARRY] * 69
-    yield every, State(1023, 1, 1025, 1024, end=1023, hit=1024), BOTH
+    yield every, State(1023, 1, 1025, 1024, end=1023, hit=1024), EACH
 
 
 def uneven():
@@ -617,10 +756,15 @@ def uneven():
     yield [[0]] * 5, State(3, 1, 1), [CARRY, CARRY]
     bare = [[0, 0], [0, 97], [0, 0], [1, 0], [0, 0]]
     yield bare, State(5, 2, 2), [CARRY, 97, 97, 98, CARRY, 97]
+    yield bare, State(9, 2, 2), [CARRY, b"aa", b"a", b"ba", b"", b"a", b"aaa", b"ab"]
+    mute = chain(20)
+    mute[2] = [0] * 21
+    yield mute, State(60, 5, 21, 25, due=True, slots=[(5, 24, 19)]), [b"aa", b"a" * 9, CARRY, b"a" * RUN]
     twins = [[0, 0, 0], [0, 97, 97], [0, 1, 2], [1, 0, 0], [0, 2, 0]]
     yield twins, State(3, 1, 3), [CARRY, 97, CARRY, 97, CARRY, 98]
     stray = [[0, 0, 1], [0, 97, 98], [0, 0, 3], [1, 0, 0], [0, 0, 0]]
     yield stray, State(6, 2, 3), [CARRY, 97, CARRY, 98, 97, 97, CARRY]
+    yield stray, State(6, 2, 3), [CARRY, b"ab", b"ba", CARRY, b"aaa", b"a"]
     yield twins, State(3, 1, 3, 2, end=1, hit=2), [CARRY, 97, CARRY, 97]
     yield stray, State(6, 2, 3, 4, end=3, hit=2), [CARRY, CARRY, 97]
     for numbers in ([7, 7, 7, 7, 7, 7], [7, 7, 0, 7, 7, 256], [0, 0, 7, 256, 7, 0], [256, 0, 1, 0, 0, 256], [0, 3, 3, 0, 3, 0]):
@@ -629,6 +773,9 @@ def uneven():
         words = [(repeated[2][v], ending(repeated, v)) for v in carriers(repeated, 6)]
         yield from (swept(repeated, words, image)[:3] for image in (b"aaaaaaaaa", b"aabaaaaaabaaaa"))
         yield repeated, State(9, 4, 7, 9, end=6, hit=max(carriers(repeated, 6))), LEFT
+
+
+SIZES = (0, 1, 1, 2, 2, 5, 5, 63, 64, 65, 100)  # of random packets
 
 
 def some_bodies(rng):
@@ -646,15 +793,24 @@ def some_image(rng):
     return bytes(rng.choice(b"ab") for _ in range(rng.randint(0, 40)))
 
 
+def some_run(rng, lists, state):
+    """A packet: often bytes that lead on from the state's node, and others behind them."""
+    v, down, size = rng.randrange(len(lists[0])), [], rng.choice(SIZES)
+    while max(state.node, lists[0][v]) < v:
+        down.append(lists[1][v])
+        v = lists[0][v]
+    return bytes(down[::-1] * rng.choice([0, 1, 1]) + rng.choices(b"ab", k=size))[:size]
+
+
 def walk_in(rng, lists, state, image):
     what = CARRY
     for _ in range(rng.randint(0, 40)):
-        said = call(lists, state, what).split()
-        if said[0] not in ("fetch", "hit"):
+        word, *values = call(lists, state, what)[0].split()
+        if word not in ("fetch", "hit"):
             break
-        what = image[int(said[1])] if said[0] == "fetch" else CARRY
+        what = image[int(values[0])] if word == "fetch" else CARRY
         if rng.random() < 0.1:
-            what = rng.choice([CARRY, 97, 98])
+            what = rng.choice([CARRY, 97, 98, some_run(rng, lists, state)])
 
 
 def leave_hits(rng, lists, state):
@@ -719,13 +875,23 @@ def arbitrary(rng):
     changed(rng, state)
     calls, probe, idle = [], copy.deepcopy(state), 0
     while len(calls) < 30 and idle < 3:
-        what = rng.choice(b"ab") if probe.due else CARRY
-        if rng.random() < 0.1:
-            what = rng.choice([CARRY, 97, 0])
+        run = some_run(rng, lists, probe)
+        what = rng.choice([*b"ab", run]) if probe.due else CARRY
+        if rng.random() < 0.15:
+            what = rng.choice([CARRY, 97, 0, run])
         calls.append(what)
-        said = call(lists, probe, what)
+        said, _ = call(lists, probe, what)
         idle = idle + 1 if said.startswith(("done", "refused 9", "refused 10")) else 0
     return lists, state, calls
+
+
+def some_sweep(rng):
+    """A whole sweep, by single bytes or by packets of random sizes; now and then of a long token and one inside it."""
+    bodies, image = some_bodies(rng), some_image(rng)
+    if rng.random() < 0.1:
+        body = b"a" * rng.randint(0, 60) + b"b" + b"a" * rng.randint(0, 40)
+        bodies, image = list(dict.fromkeys([body, body[rng.randrange(len(body)) :]])), image + body + body[30:]
+    return sweep(bodies, image, rng.choice([None, lambda: rng.randint(1, rng.choice([3, RUN]))]))[:3]
 
 
 def cases():
@@ -734,10 +900,11 @@ def cases():
     yield from ranges()
     yield from hits_left()
     yield from standing()
+    yield from packets()
     yield from large()
     yield from uneven()
     rng = random.Random(5)
     for _ in range(300):
         yield arbitrary(rng)
-    for _ in range(60):
-        yield sweep(some_bodies(rng), some_image(rng))[:3]
+    for _ in range(120):
+        yield some_sweep(rng)

@@ -1,6 +1,6 @@
 -- Demand 2: the hits are exactly the occurrences, and the places fetched are those of the reading rules. For the sweep of one
--- unchanging image by single bytes, from building on, and for the sweep of the same image as a whole.
-use Prim.Native.Nat.{ℕ, zero, suc}
+-- unchanging image by single bytes and by packets, from building on, and for the sweep of the same image as a whole.
+use Prim.Native.Nat.{ℕ, zero, suc, _-_, _≤_}
 use mathlib.Core.Path.{_≡_}
 use mathlib.Core.List.{List, [], _∷_, _++_}
 use lib.ListN.{length, getD, take}
@@ -10,6 +10,7 @@ use Rattle.tables.specs.Tables.{Tables, Sizes, build}
 use Rattle.scan.specs.declared.Scan.{Scan}
 use Rattle.scan.specs.Start.{start}
 use Rattle.scan.specs.Calls.{Answer, fetch, found, over, refused, Stepped, carryOn, supply}
+use Rattle.scan.specs.Packets.{maxPacket, supplyPacket}
 use Rattle.scan.specs.Answers.{answers, placesIn, hitsIn}
 use Rattle.whole.specs.Image.{Swept, room, counted, noted, sweepImage}
 
@@ -25,9 +26,38 @@ swept t image (suc calls) r =
       | refused k v ↦ []
     ]
 
--- `said calls` is what the first calls answer; `whole` is what the rules say in all; `sweep` is the sweep of the image as a whole, for any
--- two hit buffers; `t` are the tables that building left.
-pub record Demand2 (book image : List ℕ) (said : ℕ → List Answer) (sweep : List ℕ → List ℕ → Swept) (t : Tables) : Type 0 where
+-- The packet for place p: the image's bytes from there down, so many, or up to the image's start.
+abbrev pub packetFor : List ℕ → ℕ → ℕ → List ℕ
+packetFor image p zero = []
+packetFor image zero (suc size) = getD image 0 0 ∷ []
+packetFor image (suc p) (suc size) = getD image (suc p) 0 ∷ packetFor image p size
+
+-- The places of so many bytes, from p down, as answers.
+abbrev pub fetchedFrom : ℕ → ℕ → List Answer
+fetchedFrom p zero = []
+fetchedFrom p (suc used) = fetch p ∷ fetchedFrom (p - 1) used
+
+-- What the first calls fetch and find in a sweep by packets: the places of the bytes that were used, and the other answers. `size i` is
+-- the length of the packet at call i.
+abbrev pub sent : Tables → List ℕ → (ℕ → ℕ) → ℕ → Stepped → List Answer
+sent t image size zero r = []
+sent t image size (suc calls) r =
+    let more = sent t image (λ i. size (suc i)) calls in
+    elim (r .answer) [
+      | fetch p ↦ let d = supplyPacket t (r .state) (packetFor image p (size 0)) in fetchedFrom p (d .used) ++ more (d .step)
+      | found e i ↦ found e i ∷ more (carryOn t (r .state))
+      | over ↦ over ∷ []
+      | refused k v ↦ refused k v ∷ []
+    ]
+
+-- Packets of any lengths that are taken: 1 to 64 bytes.
+abbrev pub Lengths : (ℕ → ℕ) → Type 0
+Lengths size = (i : ℕ) → (1 ≤ size i) × (size i ≤ maxPacket)
+
+-- `said calls` is what the first calls answer, `packets size calls` what they fetch and find by packets; `whole` is what the rules say in
+-- all; `sweep` is the sweep of the image as a whole, for any two hit buffers; `t` are the tables that building left.
+pub record Demand2 (book image : List ℕ) (said : ℕ → List Answer) (packets : (ℕ → ℕ) → ℕ → List Answer)
+    (sweep : List ℕ → List ℕ → Swept) (t : Tables) : Type 0 where
   pub tokens : List (List ℕ)
   pub read : readBook book ≡ accepted tokens
   pub whole : List Answer
@@ -35,6 +65,8 @@ pub record Demand2 (book image : List ℕ) (said : ℕ → List Answer) (sweep :
   -- the calls answer what the rules say, and the last answer is done
   pub answered : (calls : ℕ) → said calls ≡ take calls whole
   pub ends : (before : List Answer) × (whole ≡ before ++ (over ∷ []))
+  -- by packets it is the same, in no more calls
+  pub by-packets : (size : ℕ → ℕ) → Lengths size → (calls : ℕ) → length whole ≤ calls → packets size calls ≡ whole
   -- the places fetched are the rules', and the hits are exactly the occurrences
   pub fetches : placesIn whole ≡ places (happens tokens (length image) (bytesOf image))
   pub finds : hitsIn whole ≡ hits (happens tokens (length image) (bytesOf image))
@@ -54,4 +86,5 @@ Demand2For =
     (book : List ℕ) (lent : Tables) (sizes : Sizes) → build book lent .answer ≡ accepted sizes →
     (image : List ℕ) (s : Scan) → start (length image) (sizes .shortest) (sizes .nodes) ≡ accepted s →
     let t = build book lent .tables in
-    Demand2 book image (λ calls. swept t image calls (carryOn t s)) (sweepImage book image lent) t
+    let r = carryOn t s in
+    Demand2 book image (λ calls. swept t image calls r) (λ size calls. sent t image size calls r) (sweepImage book image lent) t

@@ -1,9 +1,11 @@
 -- The sample sweeps P1 to P8 of document 01 as one table from the book's bytes on, and one result over its rows; each sweep ends with
 -- done. And samples of calls from building on, one sweep and one list, and of hits by their tokens' bytes.
 use Prim.Native.Nat.{ℕ}
+use native.Mathlib.Omega.{arith}
 use mathlib.Core.Path.{_≡_, refl}
 use mathlib.Core.Bool.{Bool, true, false, _&&_}
 use mathlib.Core.List.{List, [], _∷_, _++_}
+use mathlib.Core.Option.{some, none}
 use lib.Dec.{eqb}
 use lib.ListN.{getD, replicate}
 use Rattle.rules.specs.Rules.{trace}
@@ -12,11 +14,11 @@ use Rattle.rules.specs.Examples.{Sample, a, b, x, p1, p2, p3, p4, p5, right}
 use Rattle.book.specs.Book.{Reading, readBook, accepted, refused}
 use Rattle.tables.specs.Tables.{Building, built, build}
 use Rattle.scan.specs.Start.{started}
-use Rattle.scan.specs.Calls.{Answer, fetch, found, over, refused as denied, carryOn}
+use Rattle.scan.specs.Calls.{fetch, found, over, refused as denied, carryOn}
 use Rattle.scan.specs.Answers.{answers}
-use Rattle.demands.specs.Demand2.{swept}
+use Rattle.demands.specs.Demand2.{swept, packetFor, fetchedFrom, sent, Lengths}
 use Rattle.merge.specs.Merge.{wrote, merge}
-use Rattle.demands.specs.Demand3.{Call, carry, give, ran, expected}
+use Rattle.demands.specs.Demand3.{Call, carry, give, send, Said, say, ran, expected}
 use Rattle.demands.specs.Merge.{tokenIn, named}
 
 -- What a row says of its book: it is accepted, and its tokens make a sample sweep; or it is refused.
@@ -77,14 +79,35 @@ sweeps-right : swept (made .tables) (a ∷ a ∷ []) 9 (carryOn (made .tables) (
 unfolding built
 sweeps-right = refl
 
--- Demand 3's calls, in any order: a byte before any is due or while a hit is left, and carrying on when one is due, meet 11 and take
--- nothing.
-abbrev calls : List Call
-calls = give x ∷ carry ∷ carry ∷ give a ∷ carry ∷ give a ∷ give a ∷ give x ∷ carry ∷ carry ∷ carry ∷ []
+-- By packets of three bytes, in the image "aaa": the places of the used bytes, and the hits. Of the last packet one byte is left.
+packets-right : sent (made .tables) (a ∷ a ∷ a ∷ []) (λ i. 3) 12 (carryOn (made .tables) (started 3 1 3))
+    ≡ fetch 0 ∷ found 1 1 ∷ fetch 1 ∷ fetch 0 ∷ found 2 2 ∷ found 2 1 ∷ fetch 2 ∷ fetch 1 ∷ found 3 2 ∷ found 3 1 ∷ over ∷ []
+unfolding built
+packets-right = refl
 
-abbrev replies : List Answer
+-- Packets of one byte, and of 64.
+lengths-right : Lengths (λ i. 1) × Lengths (λ i. 64)
+lengths-right = ((λ i. (omega arith, omega arith)), (λ i. (omega arith, omega arith)))
+
+-- A packet runs down from its place, at most to the image's start; so do the places of its used bytes.
+packet-right : packetFor (4 ∷ 5 ∷ 6 ∷ 7 ∷ []) 2 2 ∷ packetFor (4 ∷ 5 ∷ 6 ∷ 7 ∷ []) 2 9 ∷ [] ≡ (6 ∷ 5 ∷ []) ∷ (6 ∷ 5 ∷ 4 ∷ []) ∷ []
+packet-right = refl
+
+places-right : fetchedFrom 2 2 ≡ fetch 2 ∷ fetch 1 ∷ []
+places-right = refl
+
+-- Demand 3's calls, in any order: a byte or a packet before any byte is due or while a hit is left, and carrying on when one is due, meet
+-- 11 and take nothing; a packet of 65 bytes meets 15.
+abbrev calls : List Call
+calls =
+    give x ∷ send [] ∷ carry ∷ carry ∷ send (replicate 65 a) ∷ give a ∷ send (a ∷ []) ∷ carry ∷ send []
+    ∷ send (a ∷ a ∷ a ∷ []) ∷ give x ∷ send (a ∷ []) ∷ carry ∷ carry ∷ carry ∷ send (replicate 65 a) ∷ []
+
+abbrev replies : List Said
 replies =
-    denied 11 0 ∷ fetch 0 ∷ denied 11 0 ∷ found 1 1 ∷ fetch 1 ∷ fetch 0 ∷ found 2 2 ∷ denied 11 0 ∷ found 2 1 ∷ over ∷ over ∷ []
+    say (denied 11 0) 0 ∷ say (denied 11 0) 0 ∷ say (fetch 0) 0 ∷ say (denied 11 0) 0 ∷ say (denied 15 0) 0 ∷ say (found 1 1) 1
+    ∷ say (denied 11 0) 0 ∷ say (fetch 1) 0 ∷ say (fetch 1) 0
+    ∷ say (found 2 2) 2 ∷ say (denied 11 0) 0 ∷ say (denied 11 0) 0 ∷ say (found 2 1) 0 ∷ say over 0 ∷ say over 0 ∷ say (denied 15 0) 0 ∷ []
 
 said-right : ran (made .tables) (started 2 1 3) calls .said ≡ replies
 unfolding built
@@ -98,9 +121,14 @@ counted-right : ran (made .tables) (started 2 1 3) calls .last .supplied ≡ 3
 unfolding built
 counted-right = refl
 
-expected-right : expected false (answers (happens ((a ∷ []) ∷ (a ∷ a ∷ []) ∷ []) 2 (λ k p. getD (a ∷ a ∷ a ∷ []) k 0))) calls ≡ replies
+expected-right : expected none (answers (happens ((a ∷ []) ∷ (a ∷ a ∷ []) ∷ []) 2 (λ k p. getD (a ∷ a ∷ a ∷ []) k 0))) calls ≡ replies
 unfolding happens trace
 expected-right = refl
+
+-- A packet is to use all its bytes, or those before an answer that does not fetch the place below.
+uses-right : expected (some 4) (fetch 3 ∷ fetch 1 ∷ over ∷ []) (send (a ∷ []) ∷ send (a ∷ a ∷ a ∷ []) ∷ send (a ∷ a ∷ []) ∷ [])
+    ≡ say (fetch 3) 1 ∷ say (fetch 1) 1 ∷ say over 1 ∷ []
+uses-right = refl
 
 -- "a" and "aa", and "b" and "a", in the image "aab": by their tokens' bytes the merged book finds the hits of both.
 abbrev north : List ℕ

@@ -12,7 +12,9 @@ use Rattle.trie.specs.Answers.{tables}
 use Rattle.trie.specs.declared.chain.Way.the-variants.{Found, Ends}
 use Rattle.scan.specs.declared.Scan.{Scan}
 use Rattle.scan.specs.Start.{start}
-use Rattle.scan.specs.Calls.{fetch, found as hit, over, refused as denied, Stepped}
+use Rattle.scan.specs.Calls.{fetch, found as hit, over, refused as denied, supply}
+use Rattle.scan.specs.Packets.{Delivered, noneUsed, supplyPacket}
+use Rattle.scan.specs.Examples.{count, chain}
 use Rattle.probe.specs.declared.Told.{Told}
 use Rattle.probe.specs.Numbers.{told, readingOf, placeOf, containsOf, lengthTold, mergingOf, sizesTold, buildingOf, testedOf, childOf, wayOf, stepOf}
 use Rattle.probe.specs.States.{Lent, numbersOf, stateIn, startIn, stepIn}
@@ -31,7 +33,7 @@ answers =
     ∷ plain (testedOf (accepted tt)) ∷ plain (testedOf (refused 9 8))
     ∷ plain (childOf (some 8)) ∷ plain (childOf none)
     ∷ plain (wayOf (Found 8)) ∷ plain (wayOf (Ends 8))
-    ∷ plain (stepOf (fetch 9)) ∷ plain (stepOf (hit 9 2)) ∷ plain (stepOf over) ∷ plain (stepOf (denied 9 9))
+    ∷ plain (stepOf (fetch 9) 5) ∷ plain (stepOf (hit 9 2) 6) ∷ plain (stepOf over 7) ∷ plain (stepOf (denied 9 9) 8)
     ∷ []
 
 answers-told : answers
@@ -42,7 +44,7 @@ answers-told : answers
     ∷ (1 ∷ 0 ∷ 0 ∷ 0 ∷ 0 ∷ []) ∷ (0 ∷ 9 ∷ 8 ∷ 0 ∷ 0 ∷ [])
     ∷ (1 ∷ 8 ∷ 0 ∷ 0 ∷ 0 ∷ []) ∷ (2 ∷ 0 ∷ 0 ∷ 0 ∷ 0 ∷ [])
     ∷ (1 ∷ 8 ∷ 0 ∷ 0 ∷ 0 ∷ []) ∷ (2 ∷ 8 ∷ 0 ∷ 0 ∷ 0 ∷ [])
-    ∷ (1 ∷ 9 ∷ 0 ∷ 0 ∷ 0 ∷ []) ∷ (2 ∷ 9 ∷ 2 ∷ 0 ∷ 0 ∷ []) ∷ (3 ∷ 0 ∷ 0 ∷ 0 ∷ 0 ∷ []) ∷ (0 ∷ 9 ∷ 9 ∷ 0 ∷ 0 ∷ [])
+    ∷ (1 ∷ 9 ∷ 0 ∷ 0 ∷ 5 ∷ []) ∷ (2 ∷ 9 ∷ 2 ∷ 0 ∷ 6 ∷ []) ∷ (3 ∷ 0 ∷ 0 ∷ 0 ∷ 7 ∷ []) ∷ (0 ∷ 9 ∷ 9 ∷ 0 ∷ 8 ∷ [])
     ∷ []
 unfolding answers
 answers-told = refl
@@ -70,9 +72,9 @@ built-told : buildingOf (record { answer = refused 7 21; tables = tables (1 ∷ 
     ≡ record { told = told 0 7 21 0 0; tables = tables (1 ∷ []) (2 ∷ []) (3 ∷ []) (4 ∷ []) (5 ∷ []) }
 built-told = refl
 
--- a step that hands back the state it is given
-stay : Scan → Stepped
-stay s = record { state = s; answer = over }
+-- a step that hands back the state it is given, and used 3 bytes
+stay : Scan → Delivered
+stay s = record { step = record { state = s; answer = over }; used = 3 }
 
 -- What follows the state stays; a list that is a number short, or whose seventh number is neither 0 nor 1, is told apart and stays.
 rows : List Lent
@@ -82,12 +84,23 @@ rows =
     ∷ startIn (start 8 5 6) (state ++ (5 ∷ [])) ∷ startIn (start 16777217 5 6) state ∷ startIn (start 8 5 6) (take 24 state)
     ∷ []
 
-left : List ℕ → ℕ → ℕ → ℕ → Lent
-left ns kind a b = record { state = ns; told = told kind a b 0 0 }
+left : List ℕ → ℕ → ℕ → ℕ → ℕ → Lent
+left ns kind a b used = record { state = ns; told = told kind a b 0 used }
 
 rows-left : rows
-    ≡ left (state ++ (5 ∷ 6 ∷ [])) 3 0 0 ∷ left (take 24 state) 4 0 0 ∷ left (set state 6 2) 4 0 0
-    ∷ left (8 ∷ 5 ∷ 6 ∷ 5 ∷ replicate 21 0 ++ (5 ∷ [])) 1 0 0 ∷ left (replicate 25 0) 0 8 16777216 ∷ left (take 24 state) 4 0 0
+    ≡ left (state ++ (5 ∷ 6 ∷ [])) 3 0 0 3 ∷ left (take 24 state) 4 0 0 0 ∷ left (set state 6 2) 4 0 0 0
+    ∷ left (8 ∷ 5 ∷ 6 ∷ 5 ∷ replicate 21 0 ++ (5 ∷ [])) 1 0 0 0 ∷ left (replicate 25 0) 0 8 16777216 0 ∷ left (take 24 state) 4 0 0 0
     ∷ []
 unfolding rows left state stay
 rows-left = refl
+
+-- A state over one token of twenty bytes, with a byte due: d, which is the node too, and bytes supplied.
+due : ℕ → ℕ → List ℕ
+due d supplied = 30 ∷ 20 ∷ 21 ∷ 25 ∷ d ∷ d ∷ 1 ∷ supplied ∷ replicate 17 0
+
+-- The bytes used are told of a packet, none of one that is too long, and none of a byte that is supplied singly.
+sent-told : stepIn (λ s. supplyPacket chain s (replicate 3 97)) (due 0 7) ∷ stepIn (λ s. supplyPacket chain s (replicate 65 97)) (due 0 7)
+    ∷ stepIn (λ s. noneUsed (supply chain s 97)) (due 0 7) ∷ []
+    ≡ left (due 3 10) 1 21 0 3 ∷ left (due 0 7) 0 15 0 0 ∷ left (due 1 8) 1 23 0 0 ∷ []
+unfolding due left chain count
+sent-told = refl

@@ -80,9 +80,9 @@ abbrev pub openingOf : Verdict Scan → Told
 openingOf (accepted s) = told 1 0 0 0 0
 openingOf (refused k v) = refusal k v
 
--- A step: 1, the place to fetch; 2, a hit's end and token; 3, done.
-abbrev pub stepOf : Answer → Told
-stepOf (fetch place) = told 1 place 0 0 0
-stepOf (hit end token) = told 2 end token 0 0
-stepOf over = told 3 0 0 0 0
-stepOf (denied k v) = refusal k v
+-- A step: 1, the place to fetch; 2, a hit's end and token; 3, done; and, last, how many bytes of a packet were used.
+abbrev pub stepOf : Answer → ℕ → Told
+stepOf (fetch place) used = told 1 place 0 0 used
+stepOf (hit end token) used = told 2 end token 0 used
+stepOf over used = told 3 0 0 0 used
+stepOf (denied k v) used = told 0 k v 0 used

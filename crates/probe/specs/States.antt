@@ -9,7 +9,7 @@ use Rattle.book.specs.Book.{Verdict}
 use Rattle.scan.specs.declared.Scan.{Scan}
 use Rattle.scan.specs.declared.Stretch.{Stretch as Slot}
 use Rattle.scan.specs.Start.{stateOf}
-use Rattle.scan.specs.Calls.{Stepped}
+use Rattle.scan.specs.Packets.{Delivered}
 use Rattle.probe.specs.declared.Told.{Told}
 use Rattle.probe.specs.Numbers.{told, openingOf, stepOf}
 
@@ -74,10 +74,10 @@ startIn v ns =
       | false ↦ record { state = ns; told = noState }
     ]
 
-abbrev pub handed : Stepped → List ℕ → Lent
-handed s ns = record { state = laidOver (s .state) ns; told = stepOf (s .answer) }
+abbrev pub handed : Delivered → List ℕ → Lent
+handed d ns = record { state = laidOver (d .step .state) ns; told = stepOf (d .step .answer) (d .used) }
 
 -- A step from the state that the list begins with.
-abbrev pub stepIn : (Scan → Stepped) → List ℕ → Lent
+abbrev pub stepIn : (Scan → Delivered) → List ℕ → Lent
 stepIn step ns =
     elim (isState ns) [ true ↦ handed (step (stateIn ns)) ns | false ↦ record { state = ns; told = noState } ]

@@ -21,10 +21,16 @@ pub fn tell(kind: usize, a: usize, b: usize, c: usize, d: usize) -> Told
     }
 }
 
+fn denied(why: Numbered, used: usize) -> Told
+    ensures { λ r. ⌜ r ≡ told 0 (why .number) (why .value) 0 used ⌝ }
+{
+    tell(0, why.number, why.value, 0, used)
+}
+
 fn refused(why: Numbered) -> Told
     ensures { λ r. ⌜ r ≡ refusal (why .number) (why .value) ⌝ }
 {
-    tell(0, why.number, why.value, 0, 0)
+    denied(why, 0)
 }
 
 pub fn reading(answer: book::Reading) -> Told
@@ -113,15 +119,16 @@ pub fn opening(answer: Opening) -> Told
     }
 }
 
-pub fn step(answer: Answer) -> Told
-    ensures { λ r. ⌜ r ≡ stepOf (answerOf answer) ⌝ }
+pub fn step(answer: Answer, used: usize) -> Told
+    ensures { λ r. ⌜ r ≡ stepOf (answerOf answer) used ⌝ }
 {
     match answer {
-        Answer::Fetch(place) => tell(1, place, 0, 0, 0),
-        Answer::Hit(end, token) => tell(2, end, token, 0, 0),
-        Answer::Done => tell(3, 0, 0, 0, 0),
-        Answer::Broken(_) => refused(answer.numbered()),
-        Answer::OutOfRange => refused(answer.numbered()),
-        Answer::OutOfTurn => refused(answer.numbered()),
+        Answer::Fetch(place) => tell(1, place, 0, 0, used),
+        Answer::Hit(end, token) => tell(2, end, token, 0, used),
+        Answer::Done => tell(3, 0, 0, 0, used),
+        Answer::Broken(_) => denied(answer.numbered(), used),
+        Answer::OutOfRange => denied(answer.numbered(), used),
+        Answer::OutOfTurn => denied(answer.numbered(), used),
+        Answer::Overlong => denied(answer.numbered(), used),
     }
 }

@@ -14,6 +14,7 @@ ghost use Rattle.trie.specs.Chain.{walked};
 ghost use Rattle.trie.specs.Answers.{tables};
 ghost use Rattle.scan.specs.Start.{start};
 ghost use Rattle.scan.specs.Calls.{carryOn, supply};
+ghost use Rattle.scan.specs.Packets.{noneUsed, supplyPacket};
 ghost use Rattle.probe.specs.Numbers.{readingOf, placeOf, containsOf, mergingOf, buildingOf, testedOf, childOf, wayOf};
 ghost use Rattle.probe.specs.States.{startIn, stepIn};
 use scan::Opening;
@@ -155,11 +156,13 @@ pub extern "C" fn probe_carry_on(
 ) -> Told
     ensures { λ r.
         let t = tables (now (parent .entry)) (now (label .entry)) (now (token .entry)) (now (first .entry)) (now (next .entry)) in
-        ⌜ record { state = now (state .exit); told = r } ≡ stepIn (carryOn t) (now (state .entry)) ⌝ }
+        ⌜ record { state = now (state .exit); told = r } ≡ stepIn (λ s. noneUsed (carryOn t s)) (now (state .entry)) ⌝ }
 {
     if states::is_state(state) {
         let scan = states::state_in(state);
-        return states::hand_back(state, scan.carry_on(parent, label, token, first, next));
+        let stepped = scan.carry_on(parent, label, token, first, next);
+        let answer = stepped.answer;
+        return states::hand_back(state, stepped.state, answer, 0);
     }
     states::no_state()
 }
@@ -176,11 +179,36 @@ pub extern "C" fn probe_supply(
 ) -> Told
     ensures { λ r.
         let t = tables (now (parent .entry)) (now (label .entry)) (now (token .entry)) (now (first .entry)) (now (next .entry)) in
-        ⌜ record { state = now (state .exit); told = r } ≡ stepIn (λ s. supply t s byte) (now (state .entry)) ⌝ }
+        ⌜ record { state = now (state .exit); told = r } ≡ stepIn (λ s. noneUsed (supply t s byte)) (now (state .entry)) ⌝ }
 {
     if states::is_state(state) {
         let scan = states::state_in(state);
-        return states::hand_back(state, scan.supply(parent, label, token, first, next, byte));
+        let stepped = scan.supply(parent, label, token, first, next, byte);
+        let answer = stepped.answer;
+        return states::hand_back(state, stepped.state, answer, 0);
+    }
+    states::no_state()
+}
+
+#[no_mangle]
+pub extern "C" fn probe_packet(
+    state: &mut [usize],
+    parent: &[u16],
+    label: &[u8],
+    token: &[u16],
+    first: &[u16],
+    next: &[u16],
+    bytes: &[u8],
+) -> Told
+    ensures { λ r.
+        let t = tables (now (parent .entry)) (now (label .entry)) (now (token .entry)) (now (first .entry)) (now (next .entry)) in
+        ⌜ record { state = now (state .exit); told = r } ≡ stepIn (λ s. supplyPacket t s (now (bytes .entry))) (now (state .entry)) ⌝ }
+{
+    if states::is_state(state) {
+        let scan = states::state_in(state);
+        let delivered = scan.supply_packet(parent, label, token, first, next, bytes);
+        let answer = delivered.answer;
+        return states::hand_back(state, delivered.state, answer, delivered.used);
     }
     states::no_state()
 }

@@ -4,12 +4,12 @@ ghost use mathlib.Core.Path.{_≡_};
 ghost use mathlib.Core.Bool.{true};
 ghost use Prim.Native.Nat.{_+_, _≤_};
 ghost use lib.ListN.{length};
-ghost use Rattle.scan.specs.Results.{steppedOf};
+ghost use Rattle.scan.specs.Results.{answerOf};
 ghost use Rattle.probe.specs.States.{flag, size, slotIn, noState, isState, stateIn, laidOver, handed};
 use crate::Told;
 use crate::answers;
+use scan::Answer;
 use scan::Scan;
-use scan::Stepped;
 use scan::Stretch;
 
 pub const NUMBERS: usize = 25;
@@ -105,12 +105,13 @@ pub fn lay(numbers: &mut [usize], s: Scan)
 }
 
 // A step's next state is laid over the numbers it was read from.
-pub fn hand_back(numbers: &mut [usize], stepped: Stepped) -> Told
+pub fn hand_back(numbers: &mut [usize], state: Scan, answer: Answer, used: usize) -> Told
     requires { ⌜ size ≤ length (now numbers) ⌝ }
-    ensures { λ r. ⌜ record { state = now (numbers .exit); told = r } ≡ handed (steppedOf stepped) (now (numbers .entry)) ⌝ }
+    ensures { λ r. ⌜
+        record { state = now (numbers .exit); told = r }
+        ≡ handed (record { step = record { state = state; answer = answerOf answer }; used = used }) (now (numbers .entry))
+        ⌝ }
 {
-    let state = stepped.state;
-    let answer = stepped.answer;
     lay(numbers, state);
-    answers::step(answer)
+    answers::step(answer, used)
 }

@@ -14,4 +14,6 @@ pub mod Ranges
 pub mod Steps
 pub mod StepsChoose
 pub mod StepsSettle
+pub mod StepsSupply
 pub mod Judge
+pub mod Packets

@@ -1,7 +1,8 @@
 -- What the calls are to answer, read off the rules' events.
-use Prim.Native.Nat.{ℕ}
+use Prim.Native.Nat.{ℕ, suc, _-_}
 use mathlib.Core.Bool.{Bool, true, false}
 use mathlib.Core.List.{List, [], _∷_}
+use lib.Dec.{eqb}
 use Rattle.rules.specs.Rules.{Event, fetched, recalled, hit, shifted, done}
 use Rattle.scan.specs.Calls.{Answer, fetch, found, over, refused}
 
@@ -28,12 +29,13 @@ isRefused (found e i) = false
 isRefused over = false
 isRefused (refused k v) = true
 
--- A byte is due after this answer.
-abbrev pub isFetch : Answer → Bool
-isFetch (fetch p) = true
-isFetch (found e i) = false
-isFetch over = false
-isFetch (refused k v) = false
+-- How many answers, from the first on, each fetch the place just below the one before, the first the one just below `last`.
+abbrev pub descent : ℕ → List Answer → ℕ
+descent last [] = 0
+descent last (fetch p ∷ rest) = elim (eqb (suc p) last) [ true ↦ suc (descent (last - 1) rest) | false ↦ 0 ]
+descent last (found e i ∷ rest) = 0
+descent last (over ∷ rest) = 0
+descent last (refused k v ∷ rest) = 0
 
 -- The places to fetch among answers, in order.
 abbrev pub placesIn : List Answer → List ℕ

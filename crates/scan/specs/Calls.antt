@@ -132,7 +132,7 @@ abbrev pub agree : Bool → Bool → Bool
 agree true b = b
 agree false b = not b
 
--- Refusal 11: a byte is supplied when none is due, or the call carries on when one is; `turn`: the call supplies a byte.
+-- Refusal 11: a byte is supplied when none is due, or the call carries on when one is; `turn`: the call supplies bytes.
 abbrev pub outOfTurn : Scan → Bool → Bool
 outOfTurn s turn = not (agree (s .due) turn)
 
@@ -155,10 +155,14 @@ carryOn t s =
       | none ↦ settle t (enough s) s
     ]
 
+-- The byte x is counted and taken.
+abbrev pub fed : Tables → Scan → ℕ → Scan
+fed t s x = stepped t (counted s) (takeByte (treeOf t s) (configOf s) x)
+
 -- Supplying the byte x.
 abbrev pub supply : Tables → Scan → ℕ → Stepped
 supply t s x =
     elim (judged t s true) [
       | some a ↦ record { state = s; answer = a }
-      | none ↦ settle t (enough s) (stepped t (counted s) (takeByte (treeOf t s) (configOf s) x))
+      | none ↦ settle t (enough s) (fed t s x)
     ]

@@ -12,17 +12,17 @@ use Rattle.tables.specs.Tables.{Tables}
 use Rattle.scan.specs.declared.Scan.{Scan}
 use Rattle.scan.specs.State.{laid, inRange}
 use Rattle.scan.specs.Start.{started, start}
-use Rattle.scan.specs.declared.Answer.the-variants.{Broken, OutOfRange, OutOfTurn}
+use Rattle.scan.specs.declared.Answer.the-variants.{Broken, OutOfRange, OutOfTurn, Overlong}
 use Rattle.scan.specs.declared.Opening.the-variants.{TooLong}
 use Rattle.scan.specs.Calls.{Answer, fetch, found, over, refused, Stepped, stepRefusal, counted, agree, judged, carryOn, supply}
 use Rattle.scan.specs.Results.{verdictOf, answerOf}
 
-count : ℕ → ℕ → List ℕ
+unfoldable pub count : ℕ → ℕ → List ℕ
 count from zero = []
 count from (suc n) = from ∷ count (from + 1) n
 
 -- The tables of one token of twenty bytes: node v is v deep.
-chain : Tables
+unfoldable pub chain : Tables
 unfolding count
 chain = record {
   parent = 0 ∷ count 0 20;
@@ -32,15 +32,15 @@ chain = record {
   next = replicate 21 0;
 }
 
-stretch : ℕ → ℕ → ℕ → Stretch ℕ
+unfoldable pub stretch : ℕ → ℕ → ℕ → Stretch ℕ
 stretch left right node = record { left = left; right = right; node = node }
 
-record Sample : Type 0 where
-  state : Scan
+pub record Sample : Type 0 where
+  pub state : Scan
   ranged : Bool
 
 -- N, S, the number of nodes, b, node, d, the first slots, whether a byte is due, bytes supplied; and whether it is in range
-row : ℕ → ℕ → ℕ → ℕ → ℕ → ℕ → List (Stretch ℕ) → Bool → ℕ → Bool → Sample
+unfoldable pub row : ℕ → ℕ → ℕ → ℕ → ℕ → ℕ → List (Stretch ℕ) → Bool → ℕ → Bool → Sample
 row n s k b v d ss due supplied ranged = record {
   state = record {
     image = n;
@@ -252,7 +252,7 @@ start-over-limit : start 16777217 20 21 ≡ unstarted 8 16777216
 start-over-limit = refl
 
 -- A step: 9 before 10 before 11; the root of `spoilt` has a label.
-spoilt : Tables
+unfoldable pub spoilt : Tables
 unfolding chain
 spoilt = record { parent = chain .parent; label = replicate 21 97; token = chain .token; first = chain .first; next = chain .next }
 
@@ -311,7 +311,8 @@ fetch-told : stepRefusal (fetch 24) ≡ (0, 0)
 fetch-told = refl
 
 -- Each case of the enums has its number.
-cases-told : answerOf (Broken 7) ∷ answerOf OutOfRange ∷ answerOf OutOfTurn ∷ [] ≡ refused 9 7 ∷ refused 10 0 ∷ refused 11 0 ∷ []
+cases-told : answerOf (Broken 7) ∷ answerOf OutOfRange ∷ answerOf OutOfTurn ∷ answerOf Overlong ∷ []
+    ≡ refused 9 7 ∷ refused 10 0 ∷ refused 11 0 ∷ refused 15 0 ∷ []
 cases-told = refl
 
 opening-told : verdictOf (started 0 0 0) (TooLong 7) ≡ unstarted 8 7

@@ -6,12 +6,14 @@ use Rattle.scan.specs.declared.Opening.{Opening}
 use Rattle.scan.specs.declared.Opening.the-variants.{Ready, TooLong}
 use Rattle.scan.specs.declared.Started.{Started}
 use Rattle.scan.specs.declared.Answer.{Answer as Said}
-use Rattle.scan.specs.declared.Answer.the-variants.{Fetch, Hit, Done, Broken, OutOfRange, OutOfTurn}
+use Rattle.scan.specs.declared.Answer.the-variants.{Fetch, Hit, Done, Broken, OutOfRange, OutOfTurn, Overlong}
 use Rattle.scan.specs.declared.Stepped.{Stepped as Result}
+use Rattle.scan.specs.declared.Delivered.{Delivered as Handed}
 use Rattle.scan.specs.declared.judge.Judged.{Judged}
 use Rattle.scan.specs.declared.judge.Judged.the-variants.{Admitted, Refused}
 use Rattle.scan.specs.Start.{stateOf}
 use Rattle.scan.specs.Calls.{Answer, fetch, found, over, refused, Stepped}
+use Rattle.scan.specs.Packets.{Delivered}
 
 -- How starting went, and the state that is handed back.
 pub record Opened : Type 0 where
@@ -35,9 +37,13 @@ answerOf Done = over
 answerOf (Broken v) = refused 9 v
 answerOf OutOfRange = refused 10 0
 answerOf OutOfTurn = refused 11 0
+answerOf Overlong = refused 15 0
 
 abbrev pub steppedOf : Result → Stepped
 steppedOf r = record { state = r .state; answer = answerOf (r .answer) }
+
+abbrev pub deliveredOf : Handed → Delivered
+deliveredOf r = record { step = record { state = r .state; answer = answerOf (r .answer) }; used = r .used }
 
 abbrev pub judgedOf : Judged → Option Answer
 judgedOf Admitted = none

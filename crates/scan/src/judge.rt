@@ -26,7 +26,7 @@ fn same(a: bool, b: bool) -> bool
     !b
 }
 
-// Refusals 9, 10 and 11, in that order; `turn`: the call supplies a byte.
+// Refusals 9, 10 and 11, in that order; `turn`: the call supplies bytes.
 pub fn judge(
     scan: Scan,
     parent: &[u16],

@@ -1,7 +1,8 @@
-// The sweep by single bytes: the scan state, starting, and the two calls that step it.
+// The sweep by bytes: the scan state, starting, and the three calls that step it.
 
 mod hits;
 mod judge;
+mod packets;
 mod ranges;
 mod shift;
 mod spell;
@@ -12,15 +13,16 @@ ghost use mathlib.Core.Path.{_≡_};
 ghost use Rattle.book.specs.Book.{refusalIn};
 ghost use Rattle.trie.specs.Answers.{tables};
 ghost use Rattle.scan.specs.Start.{started, start};
-ghost use Rattle.scan.specs.Calls.{stepRefusal, counted, carryOn, supply};
-ghost use Rattle.scan.specs.Results.{verdictOf, opened, startedOf, answerOf, steppedOf};
+ghost use Rattle.scan.specs.Calls.{stepRefusal, carryOn, supply};
+ghost use Rattle.scan.specs.Packets.{supplyPacket};
+ghost use Rattle.scan.specs.Results.{verdictOf, opened, startedOf, answerOf, steppedOf, deliveredOf};
 use book::Book;
 use book::Numbered;
 use judge::Judged;
 use judge::judge;
-use ranges::SUPPLIED;
+use packets::feed;
 use steps::settle;
-use steps::take_byte;
+use steps::supply_due;
 
 // A remembered stretch: the places from left up to right, right not included; its bytes are the ending of its node. A slot that
 // is not in use holds zeros.
@@ -75,7 +77,7 @@ pub struct Started {
     pub opening: Opening,
 }
 
-// What a step answers: a place to fetch, a hit (where it ends, and its token), done, or refusal 9 with its value, 10 or 11.
+// What a step answers: a place to fetch, a hit (where it ends, and its token), done, or refusal 9 with its value, 10, 11 or 15.
 pub enum Answer {
     Fetch(usize),
     Hit(usize, usize),
@@ -83,6 +85,7 @@ pub enum Answer {
     Broken(usize),
     OutOfRange,
     OutOfTurn,
+    Overlong,
 }
 
 impl Answer {
@@ -114,6 +117,10 @@ impl Answer {
                 number: 11,
                 value: 0,
             },
+            Answer::Overlong => Numbered {
+                number: 15,
+                value: 0,
+            },
         }
     }
 }
@@ -122,6 +129,13 @@ impl Answer {
 pub struct Stepped {
     pub state: Scan,
     pub answer: Answer,
+}
+
+// The same of a packet, and how many of its bytes were used.
+pub struct Delivered {
+    pub state: Scan,
+    pub answer: Answer,
+    pub used: usize,
 }
 
 // A state that has not stepped.
@@ -147,21 +161,10 @@ fn fresh(n: usize, shortest: usize, nodes: usize) -> Scan
     }
 }
 
-// The state with a byte more supplied, and none due. The count stops, so that a long sweep stays in range.
-fn count_byte(scan: Scan) -> Scan
-    ensures { λ r. ⌜ r ≡ counted scan ⌝ }
-{
-    let mut out = scan;
-    out.due = false;
-    if scan.supplied < SUPPLIED {
-        out.supplied = scan.supplied + 1;
-        return out;
-    }
-    out.supplied = SUPPLIED;
-    out
-}
-
 impl Scan {
+    // The longest packet.
+    pub const PACKET: usize = 64;
+
     // A sweep of n bytes, with the shortest token's length and the number of nodes.
     pub fn start(n: usize, shortest: usize, nodes: usize) -> Started
         ensures { λ r. ⌜ startedOf r ≡ opened (start n shortest nodes) ⌝ }
@@ -221,11 +224,38 @@ impl Scan {
                 state: self,
                 answer,
             },
-            Judged::Admitted => {
-                let scan = count_byte(self);
-                let state = take_byte(scan, parent, label, token, first, next, byte);
-                settle(state, parent, label, token, first, next)
-            }
+            Judged::Admitted => supply_due(self, parent, label, token, first, next, byte),
+        }
+    }
+
+    // A step with bytes for the place that is due, the one below it, and so on: they are used while the place wanted is the next one down.
+    pub fn supply_packet(
+        self,
+        parent: &[u16],
+        label: &[u8],
+        token: &[u16],
+        first: &[u16],
+        next: &[u16],
+        bytes: &[u8],
+    ) -> Delivered
+        ensures { λ r.
+            let t = tables (now (parent .entry)) (now (label .entry)) (now (token .entry)) (now (first .entry)) (now (next .entry)) in
+            ⌜ deliveredOf r ≡ supplyPacket t self (now (bytes .entry)) ⌝ }
+    {
+        if Scan::PACKET < bytes.len() {
+            return Delivered {
+                state: self,
+                answer: Answer::Overlong,
+                used: 0,
+            };
+        }
+        match judge(self, parent, label, token, first, next, true) {
+            Judged::Refused(answer) => Delivered {
+                state: self,
+                answer,
+                used: 0,
+            },
+            Judged::Admitted => feed(self, parent, label, token, first, next, bytes),
         }
     }
 }

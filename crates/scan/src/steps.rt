@@ -1,12 +1,14 @@
 // The rules, one step at a time, over tables that are a tree and a state in its ranges.
 
 ghost use mathlib.Core.Path.{_≡_};
+ghost use mathlib.Core.Bool.{true};
 ghost use mathlib.Core.List.{List};
+ghost use mathlib.Core.Option.{none};
 ghost use Prim.Native.Nat.{ℕ};
 ghost use Rattle.rules.specs.Rules.{endRound, takeByte};
 ghost use Rattle.trie.specs.Answers.{tables};
 ghost use Rattle.scan.specs.State.{configOf, treeOf};
-ghost use Rattle.scan.specs.Calls.{stepped, settle, enough};
+ghost use Rattle.scan.specs.Calls.{counted, stepped, settle, enough, judged, supply};
 ghost use Rattle.scan.specs.Shifts.{closingOf};
 ghost use Rattle.scan.specs.Results.{steppedOf};
 ghost use Rattle.scan.specs.Steps.{Stepping, Ending, Looking, Chosen};
@@ -15,6 +17,7 @@ use crate::Answer;
 use crate::Scan;
 use crate::Stepped;
 use crate::hits;
+use crate::ranges::SUPPLIED;
 use crate::shift;
 use crate::shift::Closing;
 use crate::stretches;
@@ -151,4 +154,38 @@ pub fn settle(
             }
         }
     }
+}
+
+// The state with a byte more supplied, and none due. The count stops, so that a long sweep stays in range.
+fn count_byte(scan: Scan) -> Scan
+    ensures { λ r. ⌜ r ≡ counted scan ⌝ }
+{
+    let mut out = scan;
+    out.due = false;
+    if scan.supplied < SUPPLIED {
+        out.supplied = scan.supplied + 1;
+        return out;
+    }
+    out.supplied = SUPPLIED;
+    out
+}
+
+// The byte that is due is counted and taken, and the call runs on.
+pub fn supply_due(
+    scan: Scan,
+    parent: &[u16],
+    label: &[u8],
+    token: &[u16],
+    first: &[u16],
+    next: &[u16],
+    byte: u8,
+) -> Stepped
+    requires { ⌜ judged (tables (now parent) (now label) (now token) (now first) (now next)) scan true ≡ none ⌝ }
+    ensures { λ r.
+        let t = tables (now (parent .entry)) (now (label .entry)) (now (token .entry)) (now (first .entry)) (now (next .entry)) in
+        ⌜ steppedOf r ≡ supply t scan byte ⌝ }
+{
+    let counted = count_byte(scan);
+    let state = take_byte(counted, parent, label, token, first, next, byte);
+    settle(state, parent, label, token, first, next)
 }

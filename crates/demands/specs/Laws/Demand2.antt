@@ -22,9 +22,9 @@ use Rattle.whole.specs.Image.{room, counted, noted, sweepImage}
 use Rattle.scan.specs.Laws.Walk.{fresh-sat, fresh-left}
 use Rattle.scan.specs.Laws.Settle.{Settled, carry-settles}
 use Rattle.tables.specs.Laws.Made.{written-lent, build-made}
-use Rattle.demands.specs.Demand2.{swept, Demand2, Demand2For}
+use Rattle.demands.specs.Demand2.{swept, sent, Demand2, Demand2For}
 use Rattle.demands.specs.Laws.Ready.{start-fresh, given, same-answers}
-use Rattle.demands.specs.Laws.Swept.{answers-end, answers-places, answers-hits, ends-over, swept-right}
+use Rattle.demands.specs.Laws.Swept.{answers-end, answers-places, answers-hits, ends-over, swept-right, sent-right}
 
 module _ (book : List ℕ) (tokens : List (List ℕ)) (read : readBook book ≡ accepted tokens) (t : Tables) (lent : Lent t (built tokens))
     (image : List ℕ) where
@@ -60,7 +60,9 @@ module _ (book : List ℕ) (tokens : List (List ℕ)) (read : readBook book ≡ 
   -- others that are.
   pub image-demand2 : (tables : Tables) → tooShort tables tokens ≡ false → (s : Scan)
       → start (length image) (shortestOf tokens) (length (nodes tokens)) ≡ accepted s
-      → Demand2 book image (λ calls. swept t image calls (carryOn t s)) (sweepImage book image tables) (written (built tokens) tables)
+      → let r = carryOn t s in
+      Demand2 book image (λ calls. swept t image calls r) (λ size calls. sent t image size calls r) (sweepImage book image tables)
+      (written (built tokens) tables)
   image-demand2 tables fits s e =
       let f = start-fresh (length image) (shortestOf tokens) (length (nodes tokens)) s e in
       let es = happens tokens (length image) (bytesOf image) in
@@ -76,6 +78,9 @@ module _ (book : List ℕ) (tokens : List (List ℕ)) (read : readBook book ≡ 
         answered = λ calls.
             rw (f .1) (swept-right (given book tokens read t lent (length image) (f .0)) image calls 0 (answers es) done _ (first-settles (f .0)));
         ends = ends-over (answers es) done;
+        by-packets = λ size sizes calls few.
+            rw (f .1) (sent-right (given book tokens read t lent (length image) (f .0)) image calls size sizes 0 (answers es) done few _
+            (first-settles (f .0)));
         fetches = answers-places es (x .whole);
         finds = found;
         occurrences = subst (Occurrences tokens image) (sym found) (x .occurrences);
@@ -92,6 +97,7 @@ unfolding Demand2For
 demand2 book lent sizes made image s e =
     let b = build-made book lent sizes made in
     let t = written (built (b .tokens)) lent in
-    subst (λ t. Demand2 book image (λ calls. swept t image calls (carryOn t s)) (sweepImage book image lent) t) (sym (b .filled))
+    subst (λ t. let r = carryOn t s in
+    Demand2 book image (λ calls. swept t image calls r) (λ size calls. sent t image size calls r) (sweepImage book image lent) t) (sym (b .filled))
     (image-demand2 book (b .tokens) (b .read) t (written-lent (built (b .tokens)) lent) image lent (b .fits) s
     (subst (λ z. start (length image) (z .shortest) (z .nodes) ≡ accepted s) (b .sized) e))

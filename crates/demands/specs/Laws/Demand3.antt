@@ -2,7 +2,7 @@
 use Prim.Native.Nat.{ℕ, suc, _+_, _*_, _≤_}
 use native.Mathlib.Omega.{arith}
 use mathlib.Core.Path.{_≡_, refl, ap, sym, subst, _∙_}
-use mathlib.Core.Bool.{false}
+use mathlib.Core.Option.{none}
 use mathlib.Core.List.{List}
 use lib.ListN.{length, getD}
 use Rattle.rules.specs.Rules.{fresh, trace}
@@ -32,14 +32,14 @@ module _ (book : List ℕ) (tokens : List (List ℕ)) (read : readBook book ≡ 
       let all = ran t (started n S count) calls .taken in
       let fuel = suc n * (D + 2) in
       let c = fresh (ofTables t count S) S in
-      let i = calls-right g all calls c false 0 0 0
+      let i = calls-right g all calls c none 0 0 0
       (answers (trace (ofTables t count S) n (λ k p. getD all k 0) fuel 0 c))
       (fresh-sat g) (fresh-left g)
-      (fuel, λ _. steps-enough n D S fuel (g .setting .positive) (omega arith), refl) refl in
+      (fuel, λ _. steps-enough n D S fuel (g .setting .positive) (omega arith), refl) tt refl in
       record {
         tokens = tokens;
         read = read;
-        said = i .said ∙ ap (λ l. expected false l calls) (sym (same-answers book tokens read t lent n h (λ k p. getD all k 0)));
+        said = i .said ∙ ap (λ l. expected none l calls) (sym (same-answers book tokens read t lent n h (λ k p. getD all k 0)));
         counted = i .counted ∙ omega arith;
         limited = omega (arith, i .limited);
         fewNow = i .few;

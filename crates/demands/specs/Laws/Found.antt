@@ -61,8 +61,8 @@ noted-all : (part : ℕ × ℕ → ℕ) (n : ℕ) (hits : List (ℕ × ℕ)) (bu
     → take (length hits) (noted part n hits buffer) ≡ map part hits
 noted-all part n hits buffer h = rw (take-all n hits h) (take-at (map part hits) _ (length hits) (length-map hits part))
 
-module _ {book image : List ℕ} {said : ℕ → List Answer} {sweep : List ℕ → List ℕ → Swept} {t : Tables}
-    (d : Demand2 book image said sweep t) where
+module _ {book image : List ℕ} {said : ℕ → List Answer} {packets : (ℕ → ℕ) → ℕ → List Answer} {sweep : List ℕ → List ℕ → Swept} {t : Tables}
+    (d : Demand2 book image said packets sweep t) where
   last-done : (calls : ℕ) (before : List Answer) → said calls ≡ before ++ (over ∷ []) → hitsIn before ≡ hitsIn (d .whole)
   last-done calls before e =
       let es = happens (d .tokens) (length image) (bytesOf image) in
@@ -132,8 +132,8 @@ sweep-finds book tokens read image hits (byBytes lent b) = by-bytes book tokens 
 sweep-finds book tokens read image hits (asWhole lent w) = as-whole book tokens read image lent hits w
 
 -- Buffers with an entry for each hit are enough.
-whole-ends : (book image : List ℕ) (lent : Tables) {said : ℕ → List Answer} {t : Tables}
-    → (d : Demand2 book image said (sweepImage book image lent) t) → AsWhole book image lent (hitsIn (d .whole))
+whole-ends : (book image : List ℕ) (lent : Tables) {said : ℕ → List Answer} {packets : (ℕ → ℕ) → ℕ → List Answer} {t : Tables}
+    → (d : Demand2 book image said packets (sweepImage book image lent) t) → AsWhole book image lent (hitsIn (d .whole))
 whole-ends book image lent d =
     let n = length (hitsIn (d .whole)) in
     let buffer : List ℕ = replicate n 0 in

@@ -1,31 +1,36 @@
 -- A list of calls, each handed the state that the one before gave back: what it answers, takes and leaves.
-use Prim.Native.Nat.{ℕ, zero, suc, _+_, _^_, _≤_}
+use Prim.Native.Nat.{ℕ, zero, suc, _+_, _-_, _^_, _≤_, min}
 use native.Mathlib.Omega.{arith}
 use native.Mathlib.Numerals.{add-one}
 use mathlib.Core.Path.{_≡_, refl, ap, sym, subst, _∙_}
 use mathlib.Core.Bool.{Bool, true, false}
 use mathlib.Core.List.{List, [], _∷_, _++_}
-use lib.ListN.{length, getD, drop, length-append}
-use Rattle.rules.specs.Rules.{Config}
+use mathlib.Core.Option.{Option, some, none}
+use lib.ListN.{length, getD, take, drop, length-append, drop-of-length-le}
+use lib.Seq.{length-take-le}
+use Rattle.rules.specs.Rules.{Config, wants, next}
 use Rattle.rules.specs.Sweep.{limit}
+use Rattle.rules.specs.Laws.Tests.{decide}
 use Rattle.tables.specs.Tables.{Tables}
+use Rattle.tables.specs.Walks.{ofTables}
+use Rattle.scan.specs.declared.Scan.{Scan}
 use Rattle.scan.specs.State.{used}
-use Rattle.scan.specs.Calls.{Answer, refused, Stepped, carryOn, supply}
-use Rattle.scan.specs.Answers.{isRefused, isFetch, first, later}
+use Rattle.scan.specs.Calls.{Answer, fetch, found, over, refused, Stepped, carryOn, supply}
+use Rattle.scan.specs.Packets.{Delivered, noneUsed, feed, overlong, supplyPacket}
+use Rattle.scan.specs.Answers.{isRefused, first, later, descent}
 use Rattle.scan.specs.Laws.Within.{Left}
 use Rattle.scan.specs.Laws.Walk.{Given, Sat}
 use Rattle.scan.specs.Laws.Range.{stateAt, sat-few, sat-below, stands}
-use Rattle.scan.specs.Laws.Settle.{Todo, Settled, carry-refused, supply-refused, carry-settles, supply-plain, supply-settles}
-use Rattle.demands.specs.Demand3.{Call, carry, give, Ran, tookBy, ran, expected}
+use Rattle.scan.specs.Laws.Settle.{isFetch, Todo, Settled, carry-refused, supply-refused, carry-settles, supply-plain, supply-settles}
+use Rattle.scan.specs.Laws.Packets.{overlong-refused}
+use Rattle.scan.specs.Laws.Feeds.{Asked, Fed, feed-settles, packet-feeds, packet-refused}
+use Rattle.demands.specs.Demand3.{Call, carry, give, send, brought, Said, say, Ran, ran, dueAfter, expected}
 
 -- A call with the others after it, by what it gives back.
-abbrev joined : Tables → Call → List Call → Stepped → Ran
-joined t call cs r =
-    let rest = ran t (r .state) cs in
-    record { said = r .answer ∷ rest .said; taken = tookBy call (r .answer) ++ rest .taken; last = rest .last }
-
-took : (x : ℕ) (a : Answer) → isRefused a ≡ false → tookBy (give x) a ≡ x ∷ []
-took x a e = cc
+abbrev joined : Tables → Call → List Call → Delivered → Ran
+joined t call cs d =
+    let rest = ran t (d .step .state) cs in
+    record { said = say (d .step .answer) (d .used) ∷ rest .said; taken = take (d .used) (brought call) ++ rest .taken; last = rest .last }
 
 drop-here : (all : List ℕ) (k x : ℕ) (xs : List ℕ) → drop k all ≡ x ∷ xs → getD all k 0 ≡ x
 drop-here [] zero x xs e = absurd (let z : _≡_ {A = ℕ} 0 1 = cc in omega arith)
@@ -39,88 +44,202 @@ drop-next [] (suc k) x xs e = absurd (let z : _≡_ {A = ℕ} 0 1 = cc in omega 
 drop-next (a ∷ all) zero x xs e = cc
 drop-next (a ∷ all) (suc k) x xs e = drop-next all k x xs e
 
+-- So many of some bytes are taken: those that come next, and others behind them.
+taken-next : (all : List ℕ) (k used : ℕ) (xs rest : List ℕ) → used ≤ length xs → drop k all ≡ take used xs ++ rest → drop (k + used) all ≡ rest
+taken-next all k zero xs rest h e = let same : k + 0 ≡ k = omega arith in rw same e
+taken-next all k (suc used) [] rest h e = absurd (omega arith)
+taken-next all k (suc used) (x ∷ xs) rest h e =
+    let same : k + suc used ≡ suc k + used = omega arith in
+    rw same (taken-next all (suc k) used xs rest (omega arith) (drop-next all k x (take used xs ++ rest) e))
+
+later-drop : (k : ℕ) (a : Answer) (todo : List Answer) → later (drop k (a ∷ todo)) ≡ drop k todo
+later-drop zero a todo = refl
+later-drop (suc k) a [] = ap later (drop-of-length-le [] {i = k} (omega arith))
+later-drop (suc k) a (b ∷ todo) = later-drop k b todo
+
+-- A byte is due where there is a place for it.
+abbrev isDue : Option ℕ → Bool
+isDue (some p) = true
+isDue none = false
+
+due-fetch : (a : Answer) → isDue (dueAfter a) ≡ isFetch a
+due-fetch (fetch p) = refl
+due-fetch (found e i) = refl
+due-fetch over = refl
+due-fetch (refused k v) = refl
+
 module _ {tokens : List (List ℕ)} {S D : ℕ} {t : Tables} {count n : ℕ} (given : Given tokens S D t count n) (all : List ℕ) where
   -- the bytes taken, one after the other
   abbrev ask : ℕ → ℕ → ℕ
   ask k p = getD all k 0
 
+  -- The place that is due is the one that the rules fetch.
+  abbrev Wanted : Option ℕ → Config ℕ → Type 0
+  Wanted (some p) c = next (ofTables t count S) n c ≡ wants p
+  Wanted none c = Unit {0}
+
+  wanted-after : (a : Answer) (c : Config ℕ) → ((p : ℕ) → a ≡ fetch p → next (ofTables t count S) n c ≡ wants p) → Wanted (dueAfter a) c
+  wanted-after (fetch p) c w = w p refl
+  wanted-after (found e i) c w = tt
+  wanted-after over c w = tt
+  wanted-after (refused k v) c w = tt
+
+  -- The bytes that a packet used are those that are asked for.
+  taken-asked : (used k last : ℕ) (xs rest : List ℕ) → drop k all ≡ take used xs ++ rest → Asked given ask k last used xs
+  taken-asked zero k last xs rest e = tt
+  taken-asked (suc used) k last [] rest e = tt
+  taken-asked (suc used) k last (x ∷ xs) rest e = (
+    sym (drop-here all k x (take used xs ++ rest) e),
+    taken-asked used (k + 1) (last - 1) xs rest (rw (add-one k) (drop-next all k x (take used xs ++ rest) e)),
+  )
+
   -- What is shown of the calls from a state on, after k bytes.
-  pub record Right (cs : List Call) (due : Bool) (todo : List Answer) (k : ℕ) (r : Ran) : Type 0 where
+  pub record Right (cs : List Call) (due : Option ℕ) (todo : List Answer) (k : ℕ) (r : Ran) : Type 0 where
     pub said : r .said ≡ expected due todo cs
     pub counted : r .last .supplied ≡ k + length (r .taken)
     pub limited : k + length (r .taken) ≤ limit n D
     pub few : 4 ^ length (used (r .last .stretches)) ≤ D
 
   abbrev Goes : List Call → Type 0
-  Goes cs = (c : Config ℕ) (due : Bool) (k end v : ℕ) (todo : List Answer) → Sat given c k → Left t count n S c due end v
-      → Todo given ask k due c end v todo
-      → drop k all ≡ ran t (stateAt n S count c due k end v) cs .taken
-      → Right cs due todo k (ran t (stateAt n S count c due k end v) cs)
+  Goes cs = (c : Config ℕ) (due : Option ℕ) (k end v : ℕ) (todo : List Answer) → Sat given c k → Left t count n S c (isDue due) end v
+      → Todo given ask k (isDue due) c end v todo → Wanted due c
+      → drop k all ≡ ran t (stateAt n S count c (isDue due) k end v) cs .taken
+      → Right cs due todo k (ran t (stateAt n S count c (isDue due) k end v) cs)
 
-  -- A call out of turn, and the others.
-  refused-right : (call : Call) (cs : List Call) → Goes cs → (c : Config ℕ) (due : Bool) (k end v : ℕ) (todo : List Answer)
-      → Sat given c k → Left t count n S c due end v → Todo given ask k due c end v todo
-      → tookBy call (refused 11 0) ≡ [] → expected due todo (call ∷ cs) ≡ refused 11 0 ∷ expected due todo cs
-      → (r : Stepped) → r ≡ record { state = stateAt n S count c due k end v; answer = refused 11 0 }
-      → drop k all ≡ joined t call cs r .taken → Right (call ∷ cs) due todo k (joined t call cs r)
-  refused-right call cs ih c due k end v todo s l h none next r is =
-      subst (λ r. drop k all ≡ joined t call cs r .taken → Right (call ∷ cs) due todo k (joined t call cs r)) (sym is) λ e.
-      let rest = ran t (stateAt n S count c due k end v) cs in
-      let z : tookBy call (refused 11 0) ++ rest .taken ≡ rest .taken = ap (λ l. l ++ rest .taken) none in
-      let i = ih c due k end v todo s l h (e ∙ z) in
-      record { said = ap (λ l. refused 11 0 ∷ l) (i .said) ∙ sym next; counted = rw z (i .counted); limited = rw z (i .limited); few = i .few }
+  -- A call that is refused, and the others.
+  refused-right : (call : Call) (cs : List Call) → Goes cs → (c : Config ℕ) (due : Option ℕ) (k end v : ℕ) (todo : List Answer)
+      → Sat given c k → Left t count n S c (isDue due) end v → Todo given ask k (isDue due) c end v todo → Wanted due c
+      → (a : Answer) → expected due todo (call ∷ cs) ≡ say a 0 ∷ expected due todo cs
+      → (d : Delivered) → d ≡ noneUsed (record { state = stateAt n S count c (isDue due) k end v; answer = a })
+      → drop k all ≡ joined t call cs d .taken → Right (call ∷ cs) due todo k (joined t call cs d)
+  refused-right call cs ih c due k end v todo s l h w a next d is =
+      subst (λ d. drop k all ≡ joined t call cs d .taken → Right (call ∷ cs) due todo k (joined t call cs d)) (sym is) λ e.
+      let i = ih c due k end v todo s l h w e in
+      record { said = ap (λ l. say a 0 ∷ l) (i .said) ∙ sym next; counted = i .counted; limited = i .limited; few = i .few }
 
-  -- A call in turn, and the others.
-  settled-right : (call : Call) (cs : List Call) → Goes cs → (due : Bool) (k k′ : ℕ) (todo : List Answer)
-      → (xs : List ℕ) → tookBy call (first todo) ≡ xs → k + length xs ≡ k′ → ((rest : List ℕ) → drop k all ≡ xs ++ rest → drop k′ all ≡ rest)
-      → expected due todo (call ∷ cs) ≡ first todo ∷ expected (isFetch (first todo)) (later todo) cs
-      → (r : Stepped) → Settled given ask k′ todo r
-      → drop k all ≡ joined t call cs r .taken → Right (call ∷ cs) due todo k (joined t call cs r)
-  settled-right call cs ih due k k′ todo xs took more on next r z =
-      subst (λ r. drop k all ≡ joined t call cs r .taken → Right (call ∷ cs) due todo k (joined t call cs r)) (sym (z .is)) λ e.
-      let rest = ran t (stateAt n S count (z .config) (z .due) k′ (z .end) (z .hit)) cs in
-      let y : tookBy call (first todo) ++ rest .taken ≡ xs ++ rest .taken = ap (λ l. l ++ rest .taken) took in
-      let i = ih (z .config) (z .due) k′ (z .end) (z .hit) (later todo) (z .sat) (z .owes) (z .rest) (on (rest .taken) (e ∙ y)) in
-      let l : k + length (tookBy call (first todo) ++ rest .taken) ≡ k′ + length (rest .taken) =
-      rw (y, length-append) (omega arith) in
+  -- A call in turn, and the others: it uses so many bytes, and answers the first of what is to come `now`.
+  settled-right : (call : Call) (cs : List Call) → Goes cs → (due : Option ℕ) (k : ℕ) (todo now : List Answer) (used : ℕ) (r : Stepped)
+      → used ≤ length (brought call)
+      → expected due todo (call ∷ cs) ≡ say (first now) used ∷ expected (dueAfter (first now)) (later now) cs
+      → Settled given ask (k + used) now r → let d : Delivered = record { step = r; used = used } in
+      drop k all ≡ joined t call cs d .taken → Right (call ∷ cs) due todo k (joined t call cs d)
+  settled-right call cs ih due k todo now used r fits next z =
+      let a = first now in
+      let turn : z .due ≡ isDue (dueAfter a) = sym (z .turn) ∙ sym (due-fetch a) in
+      subst (λ r. let d : Delivered = record { step = r; used = used } in
+      drop k all ≡ joined t call cs d .taken → Right (call ∷ cs) due todo k (joined t call cs d)) (sym (z .is ∙ ap at turn)) λ e.
+      let rest = ran t (at (isDue (dueAfter a)) .state) cs in
+      let i = ih (z .config) (dueAfter a) (k + used) (z .end) (z .hit) (later now) (z .sat)
+      (subst (λ b. Left t count n S (z .config) b (z .end) (z .hit)) turn (z .owes))
+      (subst (λ b. Todo given ask (k + used) b (z .config) (z .end) (z .hit) (later now)) turn (z .rest))
+      (wanted-after a (z .config) (z .wanted)) (taken-next all k used (brought call) (rest .taken) fits e) in
+      let sum : k + length (take used (brought call) ++ rest .taken) ≡ k + used + length (rest .taken) =
+      rw (length-append, length-take-le used (brought call) fits) (omega arith) in
       record {
-        said = ap (λ l. first todo ∷ l) (i .said ∙ ap (λ d. expected d (later todo) cs) (sym (z .turn))) ∙ sym next;
-        counted = i .counted ∙ sym l;
-        limited = rw l (i .limited);
+        said = ap (λ l. say a used ∷ l) (i .said) ∙ sym next;
+        counted = i .counted ∙ sym sum;
+        limited = rw sum (i .limited);
         few = i .few;
       }
+    where
+      at : Bool → Stepped
+      at b = record { state = stateAt n S count (z .config) b (k + used) (z .end) (z .hit); answer = first now }
 
-  -- A byte in turn, and the others.
-  give-right : (x : ℕ) (cs : List Call) → Goes cs → (c : Config ℕ) (k end v : ℕ) (todo : List Answer)
-      → Sat given c k → Left t count n S c true end v → Todo given ask k true c end v todo
-      → drop k all ≡ ran t (stateAt n S count c true k end v) (give x ∷ cs) .taken
-      → Right (give x ∷ cs) true todo k (ran t (stateAt n S count c true k end v) (give x ∷ cs))
-  give-right x cs ih c k end v todo s l h e =
-      let st = stateAt n S count c true k end v in
-      let plain = supply-plain given ask c k end v s todo h l x in
-      let rest = ran t (supply t st x .state) cs in
-      let y : drop k all ≡ x ∷ rest .taken = e ∙ ap (λ l. l ++ rest .taken) (took x (supply t st x .answer) plain) in
-      let z : Settled given ask (k + 1) todo (supply t st x) =
-      subst (λ x. Settled given ask (k + 1) todo (supply t st x)) (drop-here all k x (rest .taken) y)
-      (supply-settles given ask c k end v s todo h l) in
-      settled-right (give x) cs ih true k (k + 1) todo (x ∷ [])
-      (took x (first todo) (ap (λ r. isRefused (r .answer)) (sym (z .is)) ∙ plain)) (omega arith)
-      (λ rest q. rw (add-one k) (drop-next all k x rest q)) refl (supply t st x) z e
+  -- A call from a state with no byte due, and with the byte of place p due.
+  module _ (cs : List Call) (ih : Goes cs) (c : Config ℕ) (k end v : ℕ) (todo : List Answer) (s : Sat given c k) where
+    abbrev on : Call → Option ℕ → Type 0
+    on call due =
+        let st = stateAt n S count c (isDue due) k end v in
+        drop k all ≡ ran t st (call ∷ cs) .taken → Right (call ∷ cs) due todo k (ran t st (call ∷ cs))
+
+    module _ (l : Left t count n S c false end v) (h : Todo given ask k false c end v todo) where
+      carry-right : on carry none
+      carry-right =
+          let same : k ≡ k + 0 = omega arith in
+          let st = stateAt n S count c false k end v in
+          settled-right carry cs ih none k todo todo 0 (carryOn t st) (omega arith) refl
+          (subst (λ k. Settled given ask k todo (carryOn t st)) same (carry-settles given ask c k end v s todo h l))
+
+      give-refused : (x : ℕ) → on (give x) none
+      give-refused x =
+          refused-right (give x) cs ih c none k end v todo s l h tt (refused 11 0) refl _
+          (ap (λ r. record { step = r; used = elim (isRefused (r .answer)) [ true ↦ 0 | false ↦ 1 ] }) (supply-refused given ask c k end v s x l))
+
+      send-refused : (xs : List ℕ) → on (send xs) none
+      send-refused xs =
+          let st = stateAt n S count c false k end v in
+          refused-right (send xs) cs ih c none k end v todo s l h tt (elim (overlong xs) [ true ↦ refused 15 0 | false ↦ refused 11 0 ]) refl _
+          (decide (λ a. supplyPacket t st xs ≡ noneUsed (record { state = st; answer = a })) (overlong xs) (refused 15 0) (refused 11 0)
+          (λ e. overlong-refused t st xs e) (λ e. packet-refused given ask c k end v s l xs e))
+
+    module _ (p : ℕ) (l : Left t count n S c true end v) (h : Todo given ask k true c end v todo)
+        (w : next (ofTables t count S) n c ≡ wants p) where
+      abbrev st : Scan
+      st = stateAt n S count c true k end v
+
+      carry-refused-right : on carry (some p)
+      carry-refused-right =
+          refused-right carry cs ih c (some p) k end v todo s l h w (refused 11 0) refl _ (ap noneUsed (carry-refused given ask c k end v s todo h l))
+
+      give-right : (x : ℕ) → on (give x) (some p)
+      give-right x =
+          let r = supply t st x in
+          let used : Bool → Delivered = λ b. record { step = r; used = elim b [ true ↦ 0 | false ↦ 1 ] } in
+          subst (λ b. drop k all ≡ joined t (give x) cs (used b) .taken → Right (give x ∷ cs) (some p) todo k (joined t (give x) cs (used b)))
+          (sym (supply-plain given ask c k end v s todo h l x)) λ e.
+          let z : Settled given ask (k + 1) todo r =
+          subst (λ x. Settled given ask (k + 1) todo (supply t st x)) (drop-here all k x (ran t (r .state) cs .taken) e)
+          (supply-settles given ask c k end v s todo h l) in
+          settled-right (give x) cs ih (some p) k todo todo 1 r (omega arith) refl z e
+
+      send-right : (xs : List ℕ) → on (send xs) (some p)
+      send-right xs = go (overlong xs) refl
+        where
+          due : Settled given ask k (fetch p ∷ todo) (record { state = st; answer = fetch p })
+          due = record {
+            config = c;
+            due = true;
+            end = end;
+            hit = v;
+            is = refl;
+            sat = s;
+            owes = l;
+            rest = h;
+            turn = refl;
+            wanted = λ q e. let same : p ≡ q = cc in cc;
+          }
+
+          after : ℕ → List Said
+          after u = let now = drop u (fetch p ∷ todo) in say (first now) u ∷ expected (dueAfter (first now)) (drop u todo) cs
+
+          by : Bool → List Said
+          by b = elim b [
+            | true ↦ say (refused 15 0) 0 ∷ expected (some p) todo cs
+            | false ↦ after (min (length xs) (descent (suc p) (fetch p ∷ todo)))
+          ]
+
+          go : (b : Bool) → overlong xs ≡ b → on (send xs) (some p)
+          go true o = refused-right (send xs) cs ih c (some p) k end v todo s l h w (refused 15 0) (ap by o) _ (overlong-refused t st xs o)
+          go false o =
+              let d = feed t (suc p) (record { state = st; answer = fetch p }) xs in
+              let is : supplyPacket t st xs ≡ d = packet-feeds given ask k p todo (record { state = st; answer = fetch p }) due xs o in
+              subst (λ d. drop k all ≡ joined t (send xs) cs d .taken → Right (send xs ∷ cs) (some p) todo k (joined t (send xs) cs d)) (sym is) λ e.
+              let f : Fed given ask k (suc p) (fetch p ∷ todo) xs d =
+              feed-settles given ask xs (suc p) k (fetch p ∷ todo) _ due (taken-asked (d .used) k (suc p) xs _ e) in
+              settled-right (send xs) cs ih (some p) k todo (drop (d .used) (fetch p ∷ todo)) (d .used) (d .step) (omega (arith, f .used))
+              (ap by o ∙ ap after (sym (f .used)) ∙ ap (λ l. let a = first (drop (d .used) (fetch p ∷ todo)) in say a (d .used) ∷ expected (dueAfter a) l cs)
+              (sym (later-drop (d .used) (fetch p) todo))) (f .step) e
 
   pub calls-right : (cs : List Call) → Goes cs
-  calls-right [] c due k end v todo s l h e = record {
+  calls-right [] c due k end v todo s l h w e = record {
     said = refl;
     counted = omega arith;
     limited = omega (arith, sat-below given c k s);
-    few = subst (λ d. 4 ^ length (d .stretches) ≤ D) (sym (stands given c due k end v s)) (sat-few given c k s);
+    few = subst (λ d. 4 ^ length (d .stretches) ≤ D) (sym (stands given c (isDue due) k end v s)) (sat-few given c k s);
   }
-  calls-right (carry ∷ cs) c true k end v todo s l h e =
-      refused-right carry cs (calls-right cs) c true k end v todo s l h refl refl (carryOn t (stateAt n S count c true k end v))
-      (carry-refused given ask c k end v s todo h l) e
-  calls-right (carry ∷ cs) c false k end v todo s l h e =
-      settled-right carry cs (calls-right cs) false k k todo [] refl (omega arith) (λ rest q. q) refl (carryOn t (stateAt n S count c false k end v))
-      (carry-settles given ask c k end v s todo h l) e
-  calls-right (give x ∷ cs) c true k end v todo s l h e = give-right x cs (calls-right cs) c k end v todo s l h e
-  calls-right (give x ∷ cs) c false k end v todo s l h e =
-      refused-right (give x) cs (calls-right cs) c false k end v todo s l h refl refl (supply t (stateAt n S count c false k end v) x)
-      (supply-refused given ask c k end v s x l) e
+  calls-right (carry ∷ cs) c (some p) k end v todo s l h w e = carry-refused-right cs (calls-right cs) c k end v todo s p l h w e
+  calls-right (carry ∷ cs) c none k end v todo s l h w e = carry-right cs (calls-right cs) c k end v todo s l h e
+  calls-right (give x ∷ cs) c (some p) k end v todo s l h w e = give-right cs (calls-right cs) c k end v todo s p l h w x e
+  calls-right (give x ∷ cs) c none k end v todo s l h w e = give-refused cs (calls-right cs) c k end v todo s l h x e
+  calls-right (send xs ∷ cs) c (some p) k end v todo s l h w e = send-right cs (calls-right cs) c k end v todo s p l h w xs e
+  calls-right (send xs ∷ cs) c none k end v todo s l h w e = send-refused cs (calls-right cs) c k end v todo s l h xs e

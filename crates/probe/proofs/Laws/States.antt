@@ -2,7 +2,7 @@
 use Prim.Native.Nat.{ℕ, _≤_, _<_}
 use native.Mathlib.Omega.{arith}
 use mathlib.Core.Path.{_≡_, refl, sym, ap, _∙_}
-use mathlib.Core.Bool.{true, false}
+use mathlib.Core.Bool.{Bool, true, false}
 use mathlib.Core.List.{List, [], _∷_, _++_}
 use lib.Dec.{leb}
 use lib.ListN.{length, getD, drop}
@@ -13,7 +13,7 @@ use Rattle.book.specs.Book.{Verdict}
 use Rattle.scan.specs.declared.Scan.{Scan}
 use Rattle.scan.specs.declared.Stretch.{Stretch as Slot}
 use Rattle.scan.specs.State.{unused}
-use Rattle.scan.specs.Calls.{Stepped}
+use Rattle.scan.specs.Packets.{Delivered}
 use Rattle.scan.specs.Results.{Opened, opened}
 use Rattle.probe.specs.Numbers.{openingOf}
 use Rattle.probe.specs.States.{Lent, flag, size, slotNumbers, isState, stateIn, laidOver, noState, startIn, handed, stepIn}
@@ -21,14 +21,17 @@ use Rattle.probe.specs.States.{Lent, flag, size, slotNumbers, isState, s
 pub isState-room : (ns : List ℕ) → size ≤ length ns → isState ns ≡ leb (getD ns 6 0) 1
 isState-room ns h = rw (isState, le-leb _ _ h)
 
-pub room : (ns : List ℕ) → isState ns ≡ true → size ≤ length ns
-room ns e = leb-true size (length ns) (and-l (leb size (length ns)) (leb (getD ns 6 0) 1) e)
+-- By what the test answered: a list that begins with a state has room, and a call steps it; any other stays.
+pub room : {b : Bool} (ns : List ℕ) → b ≡ isState ns → b ≡ true → size ≤ length ns
+room ns test taken = leb-true size (length ns) (and-l (leb size (length ns)) (leb (getD ns 6 0) 1) (sym test ∙ taken))
 
-pub on : (step : Scan → Stepped) (ns : List ℕ) → isState ns ≡ true → stepIn step ns ≡ handed (step (stateIn ns)) ns
-on step ns e = rw (stepIn, e)
+pub steps : {b : Bool} {s : Scan} {d : Delivered} {l : Lent} (step : Scan → Delivered) (ns : List ℕ)
+    → b ≡ isState ns → b ≡ true → s ≡ stateIn ns → d ≡ step s → l ≡ handed d ns → l ≡ stepIn step ns
+steps step ns test taken read stepped back = rw (stepIn, sym test ∙ taken, back, stepped, read)
 
-pub off : (step : Scan → Stepped) (ns : List ℕ) → isState ns ≡ false → stepIn step ns ≡ record { state = ns; told = noState }
-off step ns e = rw (stepIn, e)
+pub stays : {b : Bool} (step : Scan → Delivered) (ns : List ℕ)
+    → b ≡ isState ns → b ≡ false → stepIn step ns ≡ record { state = ns; told = noState }
+stays step ns test left = rw (stepIn, sym test ∙ left)
 
 -- what a start leaves in a list with room
 abbrev pub startedIn : List ℕ → Opened → Lent

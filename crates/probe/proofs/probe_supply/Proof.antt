@@ -1,29 +1,30 @@
 -- The equations of reading the state, of the step and of handing it back, joined.
-use mathlib.Core.Path.{ap, sym, _∙_}
+use mathlib.Core.Path.{ap}
 use Rattle.trie.specs.Answers.{tables}
 use Rattle.scan.specs.Calls.{supply}
-use Rattle.probe.specs.States.{handed}
-use Rattle.probe.proofs.Laws.States.{room, on, off}
+use Rattle.scan.specs.Packets.{noneUsed}
+use Rattle.probe.proofs.Laws.States.{room, steps, stays}
 use borrow.Author.Needs.{needs}
 use Rattle.probe.proofs.probe_supply.Statement.{statement}
 use Rattle.probe.proofs.probe_supply.Tie as tie
 
 state-in-requires : tie.Need-state-in-requires
-state-in-requires c κs = room (c .before .before .before .before .before .before .before .before .before .before .args .state .now) (sym (c .before .before .is-state .ensures) ∙ c .before .if1 .taken)
+state-in-requires c κs = room (c .before .before .before .before .before .before .before .before .before .before .args .state .now) (c .before .before .is-state .ensures) (c .before .if1 .taken)
 
 hand-back-requires : tie.Need-hand-back-requires
-hand-back-requires c κs = room (c .before .before .before .before .before .before .before .before .before .before .before .before .before .args .state .now) (sym (c .before .before .before .before .before .is-state .ensures) ∙ c .before .before .before .before .if1 .taken)
+hand-back-requires c κs = room (c .before .before .before .before .before .before .before .before .before .before .before .before .before .args .state .now) (c .before .before .before .before .before .is-state .ensures) (c .before .before .before .before .if1 .taken)
 
 returns : tie.Need-returns
 returns c =
-    let a = c .before .before .before .before .before .before .before .before .before .before .before .before .before .before .before .before .args in
+    let d = c .before .before .before .before in
+    let b = d .before .before .before .before in
+    let a = b .before .before .before .before .before .before .before .before .args in
     let t = tables (a .parent .now) (a .label .now) (a .token .now) (a .first .now) (a .next .now) in
-    c .before .before .hand-back .ensures
-    ∙ ap (λ s. handed s (a .state .now)) (c .before .before .before .supply .ensures ∙ ap (λ s. supply t s (a .byte)) (c .before .before .before .before .before .state-in .ensures))
-    ∙ sym (on (λ s. supply t s (a .byte)) (a .state .now) (sym (c .before .before .before .before .before .before .before .before .is-state .ensures) ∙ c .before .before .before .before .before .before .before .if1 .taken))
+    steps (λ s. noneUsed (supply t s (a .byte))) (a .state .now) (b .is-state .ensures) (d .before .before .before .if1 .taken) (d .before .state-in .ensures)
+    (ap noneUsed (d .supply .ensures)) (c .before .before .hand-back .ensures)
 
 returns-2 : tie.Need-returns-2
-returns-2 c = rw (off _ _ (sym (c .before .before .is-state .ensures) ∙ c .before .if1 .left), c .no-state .ensures)
+returns-2 c = rw (stays _ _ (c .before .before .is-state .ensures) (c .before .if1 .left), c .no-state .ensures)
 
 pub probe-supply-spec : {M : Type 1} → statement M
 probe-supply-spec =

@@ -1,7 +1,7 @@
 -- How a step is judged, and what the calls do then.
 use Prim.{Unit}
 use Prim.Native.Nat.{ℕ}
-use mathlib.Core.Path.{_≡_, refl, ap, sym, subst, _∙_}
+use mathlib.Core.Path.{_≡_, refl, ap, sym, _∙_}
 use mathlib.Core.Bool.{Bool, true, false}
 use mathlib.Core.Option.{Option, some, none}
 use Rattle.rules.specs.Rules.{takeByte}
@@ -18,11 +18,10 @@ use Rattle.scan.specs.declared.judge.Judged.{Judged}
 use Rattle.scan.specs.declared.judge.Judged.the-variants.{Admitted, Refused}
 use Rattle.scan.specs.declared.Stepped.{Stepped as Result}
 use Rattle.scan.specs.State.{configOf, treeOf, inRange}
-use Rattle.scan.specs.Calls.{counted, stepped, settle, enough, outOfTurn, judged, carryOn, supply}
+use Rattle.scan.specs.Calls.{settle, enough, outOfTurn, judged, carryOn, fed, supply}
 use Rattle.scan.specs.Results.{judgedOf, steppedOf}
-use Rattle.scan.specs.Steps.{Stepping}
 use Rattle.scan.specs.Laws.Settle.{onJudged}
-use Rattle.scan.specs.Laws.Kept.{Goes, admitted-goes, none-left, counted-goes, supplied-goes}
+use Rattle.scan.specs.Laws.Kept.{Goes, admitted-goes}
 
 -- by whether the call is out of turn
 abbrev pub turned : Bool → Judged
@@ -57,10 +56,6 @@ module _ (t : Tables) (s : Scan) (turn : Bool) where
     judged-turn r true o = cc
     judged-turn r false o = cc
 
--- the state that the byte x leads to
-abbrev fed : Tables → Scan → ℕ → Scan
-fed t s x = stepped t (counted s) (takeByte (treeOf t s) (configOf s) x)
-
 -- The refused calls hand the state back.
 module _ (t : Tables) (s : Scan) (a : Said) (k : Judged) (e : k ≡ Refused a) where
   pub carry-refused : judgedOf k ≡ judged t s false → steppedOf (record { state = s; answer = a }) ≡ carryOn t s
@@ -71,7 +66,7 @@ module _ (t : Tables) (s : Scan) (a : Said) (k : Judged) (e : k ≡ Refused a) w
 
 -- A call that is not refused.
 module _ (t : Tables) (s : Scan) (turn : Bool) (k : Judged) (e : k ≡ Admitted) (is : judgedOf k ≡ judged t s turn) where
-  fine : judged t s turn ≡ none
+  pub fine : judged t s turn ≡ none
   fine = sym is ∙ ap judgedOf e
 
 module _ (t : Tables) (s : Scan) (k : Judged) (e : k ≡ Admitted) (is : judgedOf k ≡ judged t s false) where
@@ -80,22 +75,3 @@ module _ (t : Tables) (s : Scan) (k : Judged) (e : k ≡ Admitted) (is : judgedO
 
   pub carry-settles : (r : Result) → steppedOf r ≡ settle t (enough s) s → steppedOf r ≡ carryOn t s
   carry-settles r q = q ∙ ap (onJudged s (settle t (enough s) s)) (sym (fine t s false k e is))
-
--- The byte is counted and taken.
-module _ (t : Tables) (s : Scan) (x : ℕ) (k : Judged) (e : k ≡ Admitted) (is : judgedOf k ≡ judged t s true)
-    (u : Scan) (p : u ≡ counted s) where
-  pub counted-steps : Stepping t u
-  counted-steps =
-      let f = fine t s true k e is in
-      subst (Stepping t) (sym p) (record { goes = counted-goes t s f; none = none-left t s f })
-
-  module _ (r : Scan) (q : r ≡ stepped t u (takeByte (treeOf t u) (configOf u) x)) where
-    took : r ≡ fed t s x
-    took = q ∙ ap (λ u. stepped t u (takeByte (treeOf t u) (configOf u) x)) p
-
-    pub taken-goes : Goes t r
-    taken-goes = subst (Goes t) (sym took) (supplied-goes t s (fine t s true k e is) x)
-
-    pub supply-settles : (a : Result) → steppedOf a ≡ settle t (enough r) r → steppedOf a ≡ supply t s x
-    supply-settles a g =
-        g ∙ ap (λ r. settle t (enough r) r) took ∙ ap (onJudged s (settle t (enough s) (fed t s x))) (sym (fine t s true k e is))

@@ -14,7 +14,7 @@ use Rattle.tables.specs.Laws.Shape.{up}
 use Rattle.tables.specs.Broken.{broken}
 use Rattle.scan.specs.declared.Scan.{Scan}
 use Rattle.scan.specs.State.{configOf, treeOf, wantsByte, slotsOk, inRange, maxSupplied}
-use Rattle.scan.specs.Calls.{Answer, refused, counted, awaiting, told, stepped, settle, enough, agree, judged, carryOn, supply}
+use Rattle.scan.specs.Calls.{Answer, refused, counted, awaiting, told, stepped, settle, enough, agree, judged, carryOn, fed, supply}
 use Rattle.scan.specs.Laws.Within.{Ready, Within, LeftFor, left-out, in-range, ready, slots, counts, dues, lefts, within, owing-left, owing-range}
 use Rattle.scan.specs.Laws.Stay.{WithinStep, WithinNext, next-within}
 use Rattle.scan.specs.Laws.Settle.{enough-steps, above-pending, onLeft, onJudged}
@@ -180,10 +180,9 @@ module _ (t : Tables) (s : Scan) where
         go (wants at) h p = h x
         go (goes w) h p = absurd (clash false p refl)
 
-    pub supplied-goes : (x : ℕ) → Goes t (stepped t (counted s) (takeByte (treeOf t s) (configOf s) x))
+    pub supplied-goes : (x : ℕ) → Goes t (fed t s x)
     supplied-goes x = step-goes t (counted s) counted-goes (takeByte (treeOf t s) (configOf s) x) (supplied-step x)
 
     pub supply-kept : (x : ℕ) → inRange t (supply t s x .state) ≡ true
     supply-kept x =
-        let u = stepped t (counted s) (takeByte (treeOf t s) (configOf s) x) in
-        ap (λ j. inRange t (onJudged s (settle t (enough s) u) j .state)) e ∙ settle-kept t (enough s) u (supplied-goes x)
+        ap (λ j. inRange t (onJudged s (settle t (enough s) (fed t s x)) j .state)) e ∙ settle-kept t (enough s) (fed t s x) (supplied-goes x)

@@ -18,7 +18,7 @@ use Rattle.tables.specs.Laws.Hits.{hitsFrom, deeper, hits-climb, Carries, carri
 use Rattle.scan.specs.Calls.{Answer, fetch, found, over, refused, Stepped, counted, awaiting, told, firstHit, stepped, settle, enough, carryOn, supply}
 use Rattle.scan.specs.declared.Scan.{Scan}
 use Rattle.scan.specs.State.{configOf, treeOf, wantsByte, maxSupplied}
-use Rattle.scan.specs.Answers.{answers, isRefused, isFetch, first, later}
+use Rattle.scan.specs.Answers.{answers, isRefused, first, later}
 use Rattle.scan.specs.Laws.Within.{Ready, Pending, Left, owing-left}
 use Rattle.scan.specs.Laws.Walk.{Given, given-ready, Sat, SatStep, SatNext, next-sat}
 use Rattle.scan.specs.Laws.Range.{stateAt, sat-cap, stands, judged-turn}
@@ -29,6 +29,13 @@ Enough n D c fuel = c .boundary ≤ n → stepsLeft n D (c .boundary) (c .depth)
 
 pub enough-steps : (n D : ℕ) → D ≤ maxBody → (c : Config ℕ) → Enough n D c ((n + 2) * (maxBody + 2))
 enough-steps n D h c i = omega (arith, mul-le-mul {n₁ = suc n - c .boundary} {m₁ = suc D} {n₂ = suc n} {m₂ = 1025} (omega arith) (omega arith))
+
+-- A byte is due after this answer.
+abbrev pub isFetch : Answer → Bool
+isFetch (fetch p) = true
+isFetch (found e i) = false
+isFetch over = false
+isFetch (refused k v) = false
 
 -- Going on, by what comes next, and by whether a hit is left.
 abbrev pub onNext : Tables → ℕ → Scan → Next ℕ → Stepped

@@ -4,8 +4,8 @@ use native.Mathlib.Omega.{arith}
 use mathlib.Core.Path.{_≡_}
 use borrow.Author.Needs.{needs}
 use Rattle.scan.specs.State.{maxSupplied}
-use Rattle.scan.proofs.count_byte.Statement.{statement}
-use Rattle.scan.proofs.count_byte.Tie as tie
+use Rattle.scan.proofs.steps.count_byte.Statement.{statement}
+use Rattle.scan.proofs.steps.count_byte.Tie as tie
 
 add-out : tie.Need-add-out
 add-out c = search needs
