@@ -1,24 +1,42 @@
 #include "byhand.h"
 #include <string.h>
 
-enum { NODES = 16385, DEPTHS = 64, LENGTHS = 68 };
+enum { NODES = 16385, DEPTHS = 64, LENGTHS = 68, TOKENS = 256, WORDS = 2 * TOKENS, CARD = 10 };
 
-static const uint8_t *last[256]; /* the last byte of each token */
-static size_t size[256], many;
+static const uint8_t *last[WORDS]; /* the last byte of each word */
+static size_t size[WORDS], many;
+static uint16_t number[WORDS]; /* of the token whose word it is */
+static uint8_t turned[TOKENS][CARD]; /* the reverses of card numbers */
 static uint8_t label[NODES];
 static uint16_t token[NODES], first[NODES], next[NODES];
 static uint16_t kids[256], skip[256], pairs[65536], by_node[NODES], by_byte[DEPTHS * 256];
 
 static size_t body_length(uint8_t kind) { return kind <= 64 ? kind : (size_t)128 << (kind - 65); }
 
-/* Where the tokens stand, and the shortest one's length. */
+static int is_card(size_t length) { return length == 4 || length == 7 || length == CARD; }
+
+static void add_word(const uint8_t *word, size_t length, size_t t) {
+    last[many] = word + length - 1;
+    size[many] = length;
+    number[many++] = t;
+}
+
+/* A card number's bytes reversed, if they then differ. */
+static void add_turned(const uint8_t *body, size_t length, size_t t) {
+    uint8_t *word = turned[t - 1];
+    for (size_t i = 0; i < length; i++) word[i] = body[length - 1 - i];
+    if (memcmp(word, body, length)) add_word(word, length, t);
+}
+
+/* Where the words of the tokens stand, and the shortest one's length. */
 static size_t read_book(const uint8_t *book) {
-    size_t shortest = 1024;
+    size_t shortest = 1024, length, t = 0;
     many = 0;
-    for (size_t at = 0; book[at]; at += 1 + size[many++]) {
-        size[many] = body_length(book[at]);
-        last[many] = book + at + size[many];
-        if (size[many] < shortest) shortest = size[many];
+    for (size_t at = 0; book[at]; at += 1 + length) {
+        length = body_length(book[at]);
+        add_word(book + at + 1, length, ++t);
+        if (is_card(length)) add_turned(book + at + 1, length, t);
+        if (length < shortest) shortest = length;
     }
     return shortest;
 }
@@ -26,10 +44,10 @@ static size_t read_book(const uint8_t *book) {
 static void build(void) {
     size_t count = 1;
     token[0] = first[0] = next[0] = 0;
-    for (size_t t = 0; t < many; t++) {
+    for (size_t w = 0; w < many; w++) {
         size_t node = 0;
-        for (size_t k = 0; k < size[t]; k++) {
-            uint8_t x = *(last[t] - k);
+        for (size_t k = 0; k < size[w]; k++) {
+            uint8_t x = *(last[w] - k);
             size_t at = first[node], before = 0;
             while (at && label[at] != x) before = at, at = next[at];
             if (!at) {
@@ -41,20 +59,20 @@ static void build(void) {
             }
             node = at;
         }
-        token[node] = t + 1;
+        token[node] = number[w];
     }
     memset(kids, 0, sizeof kids);
     for (size_t at = first[0]; at; at = next[at]) kids[label[at]] = at;
 }
 
-/* Rule 5: the smallest shift for which a token agrees with the d bytes before `end`. */
+/* Rule 5: the smallest shift for which a word agrees with the d bytes before `end`. */
 static size_t node_shift(size_t shortest, const uint8_t *end, size_t d) {
     size_t best = shortest;
-    for (size_t t = 0; t < many && best > 1; t++) {
+    for (size_t w = 0; w < many && best > 1; w++) {
         for (size_t s = 1; s < best; s++) {
-            size_t over = size[t] <= s ? 0 : size[t] - s, k = 0;
+            size_t over = size[w] <= s ? 0 : size[w] - s, k = 0;
             if (over > d) over = d;
-            while (k < over && *(last[t] - k - s) == *(end - 1 - k)) k++;
+            while (k < over && *(last[w] - k - s) == *(end - 1 - k)) k++;
             if (k == over) best = s;
         }
     }
@@ -64,9 +82,9 @@ static size_t node_shift(size_t shortest, const uint8_t *end, size_t d) {
 /* The same for the byte x left of d matched ones. */
 static size_t byte_shift(size_t shortest, size_t d, uint8_t x) {
     size_t best = shortest;
-    for (size_t t = 0; t < many && best > 1; t++)
+    for (size_t w = 0; w < many && best > 1; w++)
         for (size_t s = 1; s < best; s++)
-            if (size[t] <= d + s || *(last[t] - d - s) == x) best = s;
+            if (size[w] <= d + s || *(last[w] - d - s) == x) best = s;
     return best;
 }
 

@@ -50,7 +50,14 @@ SHARED void make_book(size_t count, size_t size) {
     book[book_len++] = 0;
 }
 
-SHARED void build_tables(void) { nodes = probe_build(book, book_len, LENT).numbers[0]; }
+SHARED void build_tables(void) {
+    told r = probe_build(book, book_len, LENT);
+    nodes = r.numbers[0];
+    if (r.kind != 1) {
+        fprintf(stderr, "the book was refused\n");
+        exit(1);
+    }
+}
 
 SHARED void test_tables(void) {
     sink = probe_test(LENT, nodes).kind;

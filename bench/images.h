@@ -51,11 +51,22 @@ static void memory_image(void) {
     }
 }
 
-/* Each token stands in the image a few times. */
+/* Card numbers stand in an image in book order or reversed. */
+static int is_card(size_t size) { return size == 4 || size == 7 || size == 10; }
+
+static void put_turned(uint8_t *to, const uint8_t *body, size_t size) {
+    for (size_t i = 0; i < size; i++) to[i] = body[size - 1 - i];
+}
+
+/* Each token is put into the image four times, a card number in two of them reversed. */
 static void plant(void) {
     for (size_t at = 0; book[at];) {
         size_t size = book[at] <= 64 ? book[at] : (size_t)128 << (book[at] - 65);
-        for (int k = 0; k < 4; k++) memcpy(image + some() % (N - 1024), book + at + 1, size);
+        for (int k = 0; k < 4; k++) {
+            uint8_t *to = image + some() % (N - 1024);
+            if (is_card(size) && k % 2) put_turned(to, book + at + 1, size);
+            else memcpy(to, book + at + 1, size);
+        }
         at += 1 + size;
     }
 }
@@ -69,21 +80,25 @@ static void nested_image(void) {
 /* What is done with an image and its book once they are made. */
 typedef void row_of(const char *image_name, const char *book_name);
 
+/* `count` tokens of `size` bytes; for none, the mixed ones. */
+static void random_row(const char *image_name, void (*make_image)(void), const char *book_name, size_t count, size_t size, row_of *row) {
+    book_len = 0;
+    if (count) add_tokens(count, size);
+    else mixed_tokens();
+    book[book_len++] = 0;
+    make_image();
+    plant();
+    row(image_name, book_name);
+}
+
 static void random_rows(const char *image_name, void (*make_image)(void), row_of *row) {
     static const struct {
         const char *name;
         size_t count, size;
     } cases[] = {{"1 x 32", 1, 32},   {"16 x 16", 16, 16},   {"16 x 1024", 16, 1024},
                  {"256 x 8", 256, 8}, {"256 x 64", 256, 64}, {"mixed", 0, 0}};
-    for (size_t i = 0; i < sizeof cases / sizeof *cases; i++) {
-        book_len = 0;
-        if (cases[i].count) add_tokens(cases[i].count, cases[i].size);
-        else mixed_tokens();
-        book[book_len++] = 0;
-        make_image();
-        plant();
-        row(image_name, cases[i].name);
-    }
+    for (size_t i = 0; i < sizeof cases / sizeof *cases; i++)
+        random_row(image_name, make_image, cases[i].name, cases[i].count, cases[i].size, row);
 }
 
 static void nested_row(row_of *row) {
@@ -99,4 +114,6 @@ static void each_image(row_of *row) {
     random_rows("random", random_image, row);
     random_rows("memory", memory_image, row);
     nested_row(row);
+    random_row("random", random_image, "256 x 7", 256, 7, row);
+    random_row("memory", memory_image, "256 x 7", 256, 7, row);
 }

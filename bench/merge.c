@@ -37,7 +37,7 @@ static void read_both(void) {
 static void merge(void) { expect(probe_merge(north, north_len, south, south_len, out, sizeof out), book_len); }
 
 int main(void) {
-    static const size_t cases[][3] = {{128, 64, 0}, {192, 8, 128}, {16, 512, 0}};
+    static const size_t cases[][3] = {{128, 64, 0}, {192, 8, 128}, {16, 512, 0}, {192, 7, 128}};
     static void (*const runs[])(void) = {pass_both, read_both, merge};
     printf("%-12s %7s %7s %18s %18s\n", "each book", "common", "merged", "read both/pass", "merge/pass");
     for (size_t i = 0; i < sizeof cases / sizeof *cases; i++) {

@@ -33,7 +33,7 @@ static void row(size_t count, size_t size, const char *kind) {
 }
 
 int main(void) {
-    static const size_t cases[][2] = {{256, 64}, {16, 1024}, {256, 8}, {1, 5}};
+    static const size_t cases[][2] = {{256, 64}, {16, 1024}, {256, 8}, {256, 7}, {1, 5}};
     printf("%-18s %7s %18s %18s %18s\n", "book", "nodes", "read/pass", "build/pass", "test/pass");
     for (size_t i = 0; i < sizeof cases / sizeof *cases; i++) {
         make_book(cases[i][0], cases[i][1]);

@@ -10,16 +10,20 @@
  * Parameters, each with its length beside it, counted in entries and not in bytes:
  *   book                                        the revocation book's bytes, its closing 00h included; read only
  *   image                                       the machine's memory; read only
- *   parent, label, token, first_child, next_sibling   the five tables, one entry a node. 1 + the book's body bytes are enough, and
- *                                               16,385 for any book; the lengths may differ
+ *   parent, label, token, first_child, next_sibling   the five tables, one entry a node. 1 + the book's body bytes, those of reverses
+ *                                               included, are enough, and 16,385 for any book; the lengths may differ
  *   ends, tokens                                the hit buffers; any lengths, also 0, and they may differ
+ *
+ * A token of 4, 7 or 10 bytes is a card number: it occurs in book order or reversed, and both orders count toward the body bytes, one that
+ * reads the same backwards once.
  *
  * A refusal is a number with a value; 0 means none, with value 0. On a refusal the numbers after the value are 0.
  *
  *   1  the book runs out before 00h            place of the unfinished record, or the book's length if a kind byte is missing
  *   2  a kind above 44h                        its place
  *   3  bytes after 00h                         place of the first
- *   4  a body equal to an earlier one          its record's place
+ *   4  a body equal to an earlier one, or to   its record's place
+ *      the reverse of an earlier card number
  *   5  token 257, or over 16,384 body bytes    its record's place
  *   6  no token                                0
  *   7  a table shorter than 1 + body bytes     that number
@@ -44,8 +48,9 @@ typedef struct {
     uint64_t refusal, value, nodes, shortest, longest;
 } lonnatchi_built;
 
-/* Builds the five tables of the book, one entry a node: its parent, its label, the token that ends there (0: none), its first child and
- * its next sibling (0: none). Entries behind the last node stay as they are; so does every entry on a refusal (1 to 7). */
+/* Builds the five tables of the book, one entry a node: its parent, its label, the token that ends there in one of its orders (0:
+ * none), its first child and its next sibling (0: none). Entries behind the last node stay as they are; so does every entry on a refusal
+ * (1 to 7). */
 lonnatchi_built lonnatchi_build(const uint8_t *book, size_t book_len, uint16_t *parent, size_t parent_len, uint8_t *label,
                                 size_t label_len, uint16_t *token, size_t token_len, uint16_t *first_child, size_t first_child_len,
                                 uint16_t *next_sibling, size_t next_sibling_len);
@@ -55,9 +60,10 @@ typedef struct {
     uint64_t refusal, value, hits, fetched;
 } lonnatchi_swept;
 
-/* Finds every token of the book in the image. Hit i ends before image byte ends[i], and is token number tokens[i], from 1; ends rise, and
- * at one end the longest token comes first. Up to refusal 8 nothing is written. Else the tables are built, and the buffers hold the hits
- * from the front, after refusal 12 as many as the shorter one has entries; what is behind them stays as it is. */
+/* Finds every token of the book in the image, card numbers in either order. Hit i ends before image byte ends[i], and is token number
+ * tokens[i], from 1; ends rise, and at one end the longest token comes first. Up to refusal 8 nothing is written. Else the tables are
+ * built, and the buffers hold the hits from the front, after refusal 12 as many as the shorter one has entries; what is behind them stays
+ * as it is. */
 lonnatchi_swept lonnatchi_sweep(const uint8_t *book, size_t book_len, const uint8_t *image, size_t image_len, uint16_t *parent,
                                 size_t parent_len, uint8_t *label, size_t label_len, uint16_t *token, size_t token_len,
                                 uint16_t *first_child, size_t first_child_len, uint16_t *next_sibling, size_t next_sibling_len,

@@ -14,6 +14,7 @@ sys.path.insert(0, str(TOOL.parent))
 import book as tool
 import books
 import proved
+import tables
 
 PAIRS = 700  # random ones
 
@@ -32,8 +33,9 @@ def answer(book):
         return (0, int(number), int(value), 0, 0)
     if tool.made(shown, "shown") != book:
         return "another book is made of what is shown"
-    sizes = [len(line) // 2 for line in shown.split("\n") if line and line[0] != "#"]
-    return (1, len(sizes), sum(sizes), min(sizes), max(sizes))
+    bodies = [bytes.fromhex(line) for line in shown.split("\n") if line and line[0] != "#"]
+    sizes = [len(body) for body in bodies]
+    return (1, len(sizes), tables.body_bytes(bodies), min(sizes), max(sizes))
 
 
 def merging(first, second):
@@ -66,10 +68,15 @@ USES = (
     (b"# one\n61 62\n62\n\n6162 # again\n", "make - -", 1, "line 5: this token stands in line 2"),
     (listed(*NUMBERED), "make - -", 1, "line 257: with this token the book is over its limits"),
     (listed(*(bytes([i]) * 1024 for i in range(17))), "make - -", 1, "line 17: with this token the book is over its limits"),
+    (listed(b"abcd", b"x", b"dcba"), "make - -", 1, "line 3: this token stands in line 1 already, reversed"),
+    (listed(*books.filled(7), b"abcd"), "make - -", 1, "line 67: with this token the book is over its limits"),
+    (listed(*books.filled(8), b"abcd"), "make - -", 0, "\x04abcd\0"),
+    (listed(b"abcde", b"abba", b"edcba"), "make - -", 0, "\x05abcde\x04abba\x05edcba\0"),
     (listed(b"axbbx"), "make - -", 0, "\x05axbbx\0"),
     (listed(*NUMBERED[:256]), "make - -", 0, "\x02\0\xff\0"),
     (b"\x05axbbx\0", "show -", 0, "# token 1, 5 bytes\n6178626278\n"),
     (b"\x05axbbx", "show -", 1, "refused 1 6: "),
+    (b"\x04abcd\x04dcba\0", "show -", 1, f"refused 4 5: {tool.WHY[4]}"),
     (b"", "make nowhere.txt -", 2, "nowhere.txt: No such file"),
     (b"61", "make - nowhere/book.bin", 2, "nowhere/book.bin: No such file"),
     (b"", "show .", 2, "Is a directory"),
@@ -88,10 +95,12 @@ USES = (
 OLD = b"old"
 NORTH, SOUTH, WORDS = books.book_of([b"ab", b"c"]), books.book_of([b"d", b"ab", b"abc"]), "north.bin south.bin both.bin"
 BOTH, MOST = books.book_of([b"ab", b"c", b"d", b"abc"]), books.book_of(NUMBERED[:256])
+CARDS = books.book_of([b"abcd", b"abc"])
 MERGES = (
     (NORTH, SOUTH, WORDS, 0, "", BOTH),
     (NORTH, NORTH, WORDS, 0, "", NORTH),
     (MOST, books.book_of(NUMBERED[7:9]), WORDS, 0, "", MOST),
+    (CARDS, books.book_of([b"cba", b"dcba", b"gfedcba"]), WORDS, 0, "", books.book_of([b"abcd", b"abc", b"cba", b"gfedcba"])),
     (NORTH, SOUTH, "north.bin south.bin -", 0, BOTH.decode("latin-1"), OLD),
     (NORTH, SOUTH, "north.bin north.bin both.bin", 0, "", NORTH),
     (NORTH, b"\x01a\0", "both.bin south.bin both.bin", 1, f"refused 2 0: both.bin, the first book: {tool.WHY[2]}\n", OLD),
@@ -105,9 +114,11 @@ MERGES = (
     (NORTH, b"\x45", WORDS, 1, f"refused 13 2: south.bin, the second book, is refused 2 0: {tool.WHY[2]}\n", OLD),
     (NORTH, b"\x01a\0\0", WORDS, 1, f"refused 13 3: south.bin, the second book, is refused 3 3: {tool.WHY[3]}\n", OLD),
     (NORTH, b"\x01a\x01a\0", WORDS, 1, f"refused 13 4: south.bin, the second book, is refused 4 2: {tool.WHY[4]}\n", OLD),
+    (CARDS, b"\x04dcba\x04abcd\0", WORDS, 1, f"refused 13 4: south.bin, the second book, is refused 4 5: {tool.WHY[4]}\n", OLD),
     (MOST, books.book_of(NUMBERED), WORDS, 1, f"refused 13 5: south.bin, the second book, is refused 5 768: {tool.WHY[5]}\n", OLD),
     (NORTH, b"\0", WORDS, 1, f"refused 13 6: south.bin, the second book, is refused 6 0: {tool.WHY[6]}\n", OLD),
     (MOST, books.book_of([NUMBERED[3], b"x", b"y"]), WORDS, 1, "refused 5 3: with the record at this place of south.bin, the second", OLD),
+    (books.book_of(books.filled(7)), CARDS, WORDS, 1, "refused 5 0: with the record at this place of south.bin, the second", OLD),
     (None, SOUTH, WORDS, 2, "north.bin: No such file", OLD),
     (NORTH, None, WORDS, 2, "south.bin: No such file", OLD),
     (NORTH, SOUTH, "north.bin south.bin nowhere/both.bin", 2, "nowhere/both.bin: No such file", OLD),

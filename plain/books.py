@@ -1,7 +1,8 @@
 """Books to read and to build tables from, and pairs of books to merge.
 
 A case is a book, the lengths of the five tables, the number of a token to place, the damage done to the tables before they are tested
-(which table, 5 for none; the entry; the value put there), and the node count of the test.
+(which table, 5 for none; the entry; the value put there), and the node count of the test. `causes` names what a case meets, `wanted` all that
+the cases must meet.
 """
 import random
 
@@ -23,6 +24,28 @@ def numbered(i, size):
     return (bytes([7]) * size + bytes([i // 256, i % 256]))[-size:]
 
 
+def ends_exchanged(body):
+    """A body with its first and last byte exchanged."""
+    return body[-1:] + body[1:-1] + body[:1]
+
+
+def letters(size):
+    """A body of different letters, and one that reads the same backwards."""
+    body = bytes(range(97, 97 + size))
+    return body, body[: size - size // 2] + body[: size // 2][::-1]
+
+
+def filled(left):
+    """Bodies, most of them with a reverse, beside whose words a book has room for so many body bytes, at most 20."""
+    cards = [numbered(i, size) for size in tables.BOTH_ORDERS for i in range(16)]
+    return [numbered(i, 1024) for i in range(15)] + cards + [numbered(0, size) for size in (256, 64, 32 - left)]
+
+
+def undamaged(bodies, room):
+    """The book of these bodies, and tables with room for so many entries, of which all nodes are tested."""
+    return book_of(bodies), [room] * 5, len(bodies), (5, 0, 0), len(tables.build(bodies)[0])
+
+
 def limits():
     """The largest books, and one token more."""
     full = [16385] * 5
@@ -39,9 +62,33 @@ def limits():
     yield book_of([numbered(0, 1024)]), full, 1, none, 1025
 
 
+def word_limits():
+    """Books whose words just have as many bytes as they may, and one more than that, by a last token with a reverse, by one that reads the
+    same backwards, and by one that is an earlier one again: 5 comes before 4. Then 256 tokens with reverses, one more, and tables with room
+    for one byte too few, and for the tokens' own bytes alone."""
+    card, same = numbered(3, 4), letters(4)[1]
+    for size in tables.BOTH_ORDERS:
+        yield undamaged(filled(2 * size) + [letters(size)[0]], 16385)
+        yield undamaged(filled(2 * size - 1) + [letters(size)[0]], 1)
+    yield undamaged(filled(4) + [same], 16385)
+    for left, last in ((3, same), (8, card), (7, card), (8, card[::-1]), (7, card[::-1]), (0, b"x")):
+        yield undamaged(filled(left) + [last], 1)
+    sevens = [numbered(i, 7) for i in range(256)]
+    for last in (letters(7)[0], sevens[3], sevens[3][::-1]):
+        yield undamaged(sevens + [last], 1)
+    for bodies in (filled(0), sevens):
+        for room in (tables.body_bytes(bodies) + 1, tables.body_bytes(bodies), sum(map(len, bodies)) + 1):
+            yield undamaged(bodies, room)
+
+
+def same_mark(body):
+    """Another body with the same mark: reversed or, where that is the same token, with its ends exchanged."""
+    return ends_exchanged(body) if tables.has([body], body[::-1]) else body[::-1]
+
+
 def mirrored(bodies):
-    """The bodies, and before them the same read backwards: these set the marks, so that each body is looked for among all before it."""
-    return list(dict.fromkeys([body[::-1] for body in bodies] + bodies))
+    """The bodies, and before them others with the same marks, so that each body is looked for among all before it."""
+    return tables.distinct([*map(same_mark, bodies), *bodies])
 
 
 def one_byte_apart(size, places):
@@ -51,11 +98,14 @@ def one_byte_apart(size, places):
 
 
 def nearly_equal():
-    """Bodies of books that share few marks: apart in one byte, at each place, of long ones at some; each the start of the next, or of the one
-    before; the same at both ends; apart in their last two bytes, with four hashes. Then 256 with marks of their own: all of one byte, and
-    some that count up at their end."""
-    for size in (2, 3, 5, 8, 9, 15, 16, 17, 18, 33, 64):
+    """Bodies of books that share few marks: apart in one byte, at each place, of long ones at some; so apart from the reverse of one; each
+    the start of the next, or of the one before; the same at both ends; apart in their last two bytes, with four hashes. Then 256 with marks
+    of their own: all of one byte, and some that count up at their end."""
+    for size in (2, 3, 4, 5, 7, 8, 9, 10, 15, 16, 17, 18, 33, 64):
         yield mirrored(one_byte_apart(size, range(size)))
+    for size in tables.BOTH_ORDERS:
+        body, *others = one_byte_apart(size, range(size))
+        yield mirrored([body] + [other[::-1] for other in others])
     yield mirrored(one_byte_apart(128, (*range(20), *range(54, 74), *range(108, 128))))
     yield mirrored(one_byte_apart(1024, (0, 7, 8, 511, 1015, 1016, 1023)))
     longer = [bytes(range(1, size + 1)) for size in range(1, 65)]
@@ -65,25 +115,56 @@ def nearly_equal():
     yield [b"begin" + bytes(40) + bytes([i, 255 - i]) + bytes(12) + b"close" for i in range(256)]
     yield [bytes([7] * 62 + [x, y]) for y in range(256) for x in range(256) if (37 * y + x) % 1024 < 4][:256]
     yield [bytes([i]) for i in range(256)]
-    for size in (2, 8, 64):
+    for size in (2, 7, 8, 64):
         yield [numbered(i, size) for i in range(256)]
 
 
 def repeats():
-    """Such bodies, which are no repeats; then with the last equal to the first, to a middle one, and to the one before it."""
+    """Such bodies, which are no repeats; then with the last a word of the first, of a middle one, and of the one before it."""
     for bodies in nearly_equal():
-        need = 1 + sum(map(len, bodies))
+        need = 1 + tables.body_bytes(bodies)
         yield book_of(bodies), [need] * 5, len(bodies), (5, 0, 0), need
         for k in sorted({0, (len(bodies) - 1) // 2, len(bodies) - 2}):
-            yield book_of(bodies[:-1] + [bodies[k]]), [need] * 5, 1, (5, 0, 0), 1
+            for word in tables.words(bodies[k]):
+                yield book_of(bodies[:-1] + [word]), [need] * 5, 1, (5, 0, 0), 1
+
+
+def backwards():
+    """Bodies of each short length: one, one and its reverse, which is a repeat at some lengths, and one that reads the same backwards, a
+    repeat only where it comes again. Then bodies, in two orders, that are, or of which the reverse is, a part of others or of reverses."""
+    for size in range(3, 12):
+        body, same = letters(size)
+        yield from ([body], [body, body[::-1]], [body[::-1], b"x", body], [same], [same, body], [same, same])
+        yield [body, body[:-1] + b"x", b"x" + body[1:], ends_exchanged(body), same]
+    for bodies in (
+        [b"xdcba", b"abcd"], [b"xdcbay", b"abcd"], [b"xabcd", b"abcd"], [b"dcbaxyz", b"abcd"], [b"abcdxyz", b"abcd"], [b"xyzabcd", b"abcd"],
+        [b"abcdxyzuvw", b"abcdxyz", b"abcd"], [b"dcbaxyzuvw", b"zyxabcd", b"abcd", b"xdcba"], [b"abcd", b"dcb", b"cba", b"ba", b"a", b"cd"],
+        [b"abcdefg", b"gfe", b"cba", b"edcba", b"fedcba", b"dcba", b"bcdefg"], [b"abcdefghij", b"jihgfedcb", b"ihgfedcba", b"gfedcba"],
+        [b"abab", b"ab", b"ba", b"bab", b"babab"], [b"aaab", b"aab", b"baa", b"baaaa", b"aabaaab", b"aaa"], [b"abca", b"acbax", b"xabca"],
+        [b"abba", b"abbaabb", b"bbaabba"], [b"aaaa", b"aaaaaaa", b"aaaaaaaaaa", b"aaaaa"], [b"aabb", b"bbaa"], [b"aba", b"abaa", b"aaba"],
+    ):
+        yield bodies
+        yield bodies[::-1]
+
+
+def both_orders():
+    """Such books, with tables that have just room for all words, for one byte less, and for the tokens' own bytes alone."""
+    for bodies in backwards():
+        need = 1 + tables.body_bytes(bodies)
+        for room in sorted({need, need - 1, 1 + sum(map(len, bodies))}):
+            yield undamaged(bodies, room)
 
 
 def few_bodies(rng):
-    """Up to five short bodies of three letters."""
-    bodies = []
+    """Up to five short bodies of two or three letters, some of them an ending of the reverse of one before."""
+    bodies, alphabet = [], rng.choice([b"ab", b"abc"])
     for _ in range(rng.randint(0, 5)):
-        size = rng.choice([1, 2, 3, 4, 5, 7])
-        bodies.append(bytes(rng.choice(b"abc") for _ in range(size)))
+        if bodies and rng.random() < 0.3:
+            back = rng.choice(bodies)[::-1]
+            bodies.append(back[rng.choice([0, 0, rng.randrange(len(back))]) :])
+        else:
+            size = rng.choice([1, 2, 3, 4, 4, 5, 7, 7, 10])
+            bodies.append(bytes(rng.choice(alphabet) for _ in range(size)))
     return bodies
 
 
@@ -99,7 +180,7 @@ def damaged(rng, book):
     if turn < 0.15:
         del book[rng.randint(0, len(book)) :]
     elif turn < 0.3 and book:
-        book[rng.randrange(len(book))] = rng.choice([0, 1, 2, 5, 64, 65, 68, 69, 255])
+        book[rng.randrange(len(book))] = rng.choice([0, 1, 2, 4, 5, 7, 64, 65, 68, 69, 255])
     elif turn < 0.35:
         book += b"\0"
     return bytes(book)
@@ -109,12 +190,12 @@ def arbitrary(rng):
     """A small book, sometimes damaged; tables of any length; one entry damaged."""
     bodies = few_bodies(rng) if rng.random() < 0.8 else alike_bodies(rng)
     if rng.random() < 0.6:
-        bodies = list(dict.fromkeys(bodies))
+        bodies = tables.distinct(bodies)
     book = damaged(rng, book_of(bodies))
-    need = 1 + sum(map(len, bodies))
+    own, need = 1 + sum(map(len, bodies)), 1 + tables.body_bytes(bodies)
     lengths = [max(0, need + rng.choice([0, 0, 0, 1, 3])) for _ in range(5)]
     if rng.random() < 0.2:
-        lengths[rng.randrange(5)] = rng.randint(0, need)
+        lengths[rng.randrange(5)] = rng.choice([own, need - 1, rng.randint(0, need)])
     reading = tables.read(book)
     nodes = len(tables.build(reading[1])[0]) if reading[0] == "accepted" else 1
     count = nodes + rng.choice([0, 0, 0, 0, 1, -1])
@@ -125,13 +206,76 @@ def arbitrary(rng):
 
 def cases():
     yield from limits()
+    yield from word_limits()
     yield from repeats()
+    yield from both_orders()
     rng = random.Random(11)
     for _ in range(400):
         yield arbitrary(rng)
 
 
+# What a book meets
+
+
+def reversed_in(tokens, body):
+    """Whether these tokens have a body, but reversed."""
+    return body not in tokens and tables.has(tokens, body)
+
+
+def refused_at(book, place):
+    """The bodies before the record at a place, and its own."""
+    return tables.whole_bodies(book[:place]), book[place + 1 :][: tables.body_at(book, place)]
+
+
+def over(before, body):
+    """How a body brings those before it over the limits."""
+    words, own = tables.body_bytes(before + [body]), tables.body_bytes(before) + len(body)
+    yield from ["5 by a token that has a reverse"] * (len(before) == 256 and words > own)
+    yield from ["5 by a reverse"] * (len(before) < 256 and own <= 16384)
+    yield from ["5 by a reverse, by one byte"] * (len(before) < 256 and own <= 16384 and words == 16385)
+    yield from ["5 by a body that reads the same backwards"] * (len(before) < 256 and len(body) in tables.BOTH_ORDERS and words == own)
+    yield from ["5 before 4, by a reverse"] * reversed_in(before, body)
+    yield from ["5 before 4"] * (body in before)
+
+
+def built(bodies, room):
+    """What is met where a book is accepted, with room for so many entries."""
+    own, words = sum(map(len, bodies)), tables.body_bytes(bodies)
+    if room <= words:
+        yield from ["7 by a reverse"] * (own < room) + ["7 by a reverse, by one entry"] * (own < room == words)
+        return
+    yield from ["room for the words alone"] * (own < words and room == words + 1)
+    yield from ["256 tokens with reverses"] * (len(bodies) == 256 and own < words)
+    yield from ["16,384 body bytes with reverses"] * (words == 16384 and own < words)
+    yield from (f"{len(body)} bytes and their reverse" for body in bodies if body[::-1] in bodies and body[::-1] != body)
+    yield from (f"{len(body)} bytes that read the same backwards" for body in bodies if body[::-1] == body)
+
+
+def causes(book, lengths, *_):
+    """What a case meets, by name, where reverses count or could."""
+    reading = tables.read(book)
+    if reading[0] == "accepted":
+        yield from built(reading[1], min(lengths))
+    elif reading[1] in (4, 5):
+        before, body = refused_at(book, reading[2])
+        yield from over(before, body) if reading[1] == 5 else [f"4 by the reverse of {len(body)} bytes"] * reversed_in(before, body)
+
+
+def wanted():
+    yield from ("5 by a token that has a reverse", "5 by a reverse", "5 by a reverse, by one byte", "5 by a body that reads the same backwards")
+    yield from ("5 before 4, by a reverse", "5 before 4", "7 by a reverse", "7 by a reverse, by one entry", "room for the words alone")
+    yield from ("256 tokens with reverses", "16,384 body bytes with reverses")
+    for n in range(3, 12):
+        yield f"4 by the reverse of {n} bytes" if n in tables.BOTH_ORDERS else f"{n} bytes and their reverse"
+        yield f"{n} bytes that read the same backwards"
+
+
 # Pairs to merge
+
+
+def in_turns(bodies):
+    """The same tokens, each second one in its other order."""
+    return [tables.words(body)[-1 if i % 2 else 0] for i, body in enumerate(bodies)]
 
 
 def merged_limits():
@@ -170,6 +314,27 @@ def merged_limits():
     yield most[:256], most[:256]
 
 
+def merged_word_limits():
+    """The same by words, with tokens that both books have, in either order, before and behind those that bring both to the limits."""
+    sevens, (new, same), card = [numbered(i, 7) for i in range(257)], letters(4), numbered(3, 4)[::-1]
+    for left, second in (
+        (8, [new]), (8, [new, b"x"]), (8, [card, new]), (8, [card, new, card[:3]]), (7, [new]), (7, [card, new, b"x"]), (4, [same]),
+        (3, [same]), (4, [new, same]), (0, [card]), (0, [card, b"x"]), (0, [b"x", card]), (20, [letters(10)[0], card]),
+        (19, [card, letters(10)[0]]), (14, [new, letters(7)[0]]), (14, [letters(7)[0], new]),
+    ):
+        yield filled(left), second
+    half = filled(0)[::2], filled(0)[1::2]
+    yield half
+    yield half[0] + [b"x"], half[1]
+    yield half[0], [body[::-1] for body in half[1]]
+    yield filled(0), in_turns(filled(0))
+    yield sevens[:256], in_turns(sevens[:256])
+    yield sevens[:256], in_turns(sevens[:4]) + sevens[256:]
+    yield sevens[:200], in_turns(sevens[150:256])
+    yield sevens[:200], in_turns(sevens[150:257])
+    yield sevens[:128], in_turns(sevens[128:256])
+
+
 def alike():
     """Bodies of two books: equal, apart, one within the other; bodies that are almost those of the other book."""
     a, b, c, d, e = (bytes([x]) for x in b"abcde")
@@ -191,18 +356,28 @@ def alike():
     yield ends[:128], ends[64:]
     sizes = sorted(KINDS)
     yield [numbered(1, n) for n in sizes], [numbered(1 + n % 2, n) for n in sizes]
+    for size in range(3, 12):
+        body, same = letters(size)
+        yield [body], [body[::-1]]
+        yield [b"x", same, body], [body[::-1], b"y", same]
+        yield [body, same], tables.distinct([body[:-1] + b"x", b"y" + body[-2::-1], body[:0:-1] + b"z", ends_exchanged(body), body[::-1]])
+    yield [b"xdcba", b"abcdxyz"], [b"abcd", b"zyxdcba", b"abcdx"]
+    yield [b"abcd"], [b"dcbaxyz", b"dcb", b"dcba", b"cba", b"xdcba"]
+    yield [b"abcd"], [b"abcd", b"dcba"]
+    yield [b"abcd", b"abba"], [b"dcba", b"abba", b"abcd"]
 
 
 def refused():
-    """A book for each refusal: 1 with no kind at all, one missing, a short body, and none; then 2 to 6."""
+    """A book for each refusal: 1 with no kind at all, one missing, a short body, and none; then 2 to 6, 4 by a body and by its reverse."""
     yield from (b"", b"\x01a", b"\x01a\x05axbb", b"\x44", b"\x01a\x45\0", b"\x01a\0\0", b"\x01a\x02bc\x01a\0")
+    yield book_of([b"abcd", b"bc", b"dcba"])
     yield book_of([numbered(i, 2) for i in range(257)])
     yield book_of([numbered(i, 1024) for i in range(16)] + [b"x"])
     yield b"\0"
 
 
 def pairs():
-    for first, second in (*merged_limits(), *alike()):
+    for first, second in (*merged_limits(), *merged_word_limits(), *alike()):
         yield book_of(first), book_of(second)
     good, full = book_of([b"a", b"bc"]), book_of([numbered(i, 64) for i in range(256)])
     for bad in refused():
@@ -218,9 +393,11 @@ SHAPES = ("apart", "equal", "overlapping", "the first refused", "the second refu
 
 def near_limits(rng):
     """Bodies of two books, with about as many tokens or body bytes together as a book may have."""
-    size = rng.choice([2, 3, 63, 64, 512, 1024])
+    size = rng.choice([2, 3, 7, 63, 64, 512, 1024])
     pool = [numbered(i, size) for i in range(min(256, 16384 // size) + rng.randint(-2, 1))]
-    pool += [b"abc"[i : i + 1] for i in range(rng.randint(0, 2))]
+    if rng.random() < 0.2:
+        pool = filled(rng.randint(0, 20))
+    pool += [letters(n)[0] for n in rng.sample([1, 2, *tables.BOTH_ORDERS], rng.randint(0, 2))]
     rng.shuffle(pool)
     cut = rng.randint(1, len(pool) - 1)
     return pool[:cut], pool[cut:]
@@ -230,15 +407,20 @@ def far_from_limits(rng):
     pool = few_bodies(rng) + few_bodies(rng) + [b"a", b"b"]
     if rng.random() < 0.2:
         pool.append(numbered(rng.randint(0, 3), rng.choice([16, 64, 128, 256, 512, 1024])))
-    pool = list(dict.fromkeys(pool))
+    pool = tables.distinct(pool)
     rng.shuffle(pool)
     cut = rng.randint(1, len(pool) - 1)
     return pool[:cut], pool[cut:]
 
 
+def some_again(rng, bodies, k):
+    """So many of these tokens, each in one of its orders."""
+    return [rng.choice(tables.words(body)) for body in rng.sample(bodies, k)]
+
+
 def spoilt(rng, bodies):
     """A book of these bodies, perhaps with one again, and damaged until it is refused."""
-    book = book_of(bodies + rng.choices(bodies, k=rng.choice([0, 0, 0, 1])))
+    book = book_of(bodies + some_again(rng, bodies, rng.choice([0, 0, 0, 1])))
     while tables.read(book)[0] == "accepted":
         book = damaged(rng, book)
     return book
@@ -248,9 +430,9 @@ def some_pair(rng, shape):
     """Two books, of one of SHAPES."""
     first, second = near_limits(rng) if shape == "near the limits" else far_from_limits(rng)
     if shape == "equal":
-        second = rng.choice([first, rng.sample(first, len(first))])
+        second = rng.choice([first, some_again(rng, first, len(first))])
     elif shape != "apart":
-        second = second + rng.sample(first, rng.randint(1, min(8, len(first))))
+        second = second + some_again(rng, first, rng.randint(1, min(8, len(first))))
         rng.shuffle(second)
     return (
         (spoilt(rng, first) if shape in ("the first refused", "both refused") else book_of(first)),

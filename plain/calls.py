@@ -1,7 +1,7 @@
 #!/usr/bin/env python3
 """Compares the proved calls with the plain readings of the papers: every answer, and all that the lent tables and states then hold, with
 what lies around them. The books of books.py and the states of steps.py come first, and must be as many as COUNTS says and meet all that
-`steps.wanted` names; then as many fresh random ones. Fails at the first difference and says where.
+`wanted` names in either; then fresh random ones. Fails at the first difference and says where.
 
   plain/calls.py            with a new seed, which it prints
   plain/calls.py --seed N   the random cases of that seed again
@@ -17,7 +17,7 @@ import steps
 import tables
 from proved import BYTES, ENTRIES, NUMBERS, Byte, Lent
 
-COUNTS = (495, 2064, 24237)  # books, states, and steps from them
+COUNTS = (813, 2108, 27412)  # books, states, and steps from them
 FRESH = (3000, 2000, 800)  # random books, states, and whole sweeps
 FILL = 0xA5  # in lent tables
 BEHIND = [7, 0, 2**64 - 1]  # behind the numbers of a state
@@ -64,24 +64,25 @@ def reading_told(reading):
     if reading[0] == "refused":
         return told(0, *reading[1:])
     sizes = [len(body) for body in reading[1]]
-    return told(1, len(sizes), sum(sizes), min(sizes), max(sizes))
+    return told(1, len(sizes), tables.body_bytes(reading[1]), min(sizes), max(sizes))
 
 
 def place_told(place):
     return told(3) if place == "unread" else told(2) if place is None else told(1, *place)
 
 
-def near(body):
-    """A body, and others that are almost it."""
-    changed = bytes([body[-1] ^ 1])
-    return body, body[:-1], body[1:], body[:-1] + changed, changed + body[1:], body + b"\0", body + body[-1:]
+def near(word):
+    """A word, the same reversed, and others that are almost it."""
+    changed = bytes([word[-1] ^ 1])
+    yield from (word, word[::-1], books.ends_exchanged(word))
+    yield from (word[:-1], word[1:], word[:-1] + changed, changed + word[1:], word + b"\0", word + word[-1:])
 
 
 def tried(book):
-    """Bodies that the book has, that it almost has, that stand in it elsewhere, and others."""
+    """Bodies that the book has, in either order, that it almost has, that stand in it elsewhere, and others."""
     bodies = tables.whole_bodies(book)
-    for body in (*bodies[:2], *bodies[-1:]):
-        yield from near(body)
+    for _, word in tables.spelled(bodies[:2] + bodies[-1:]):
+        yield from near(word)
     for at in range(min(len(book), 20)):
         yield book[at + 1 : at + 1 + tables.body_at(book, at)]
     yield from (b"", b"a", b"not there", book, book[1:], book[-2:], bytes(1024))
@@ -92,9 +93,9 @@ def building(reading, lengths):
     lists = [[FILL] * n for n in lengths]
     if reading[0] == "refused":
         return told(0, *reading[1:]), lists
-    sizes = [len(body) for body in reading[1]]
-    if min(lengths) < 1 + sum(sizes):
-        return told(0, 7, 1 + sum(sizes)), lists
+    sizes, need = [len(body) for body in reading[1]], 1 + tables.body_bytes(reading[1])
+    if min(lengths) < need:
+        return told(0, 7, need), lists
     built = tables.build(reading[1])
     for k in range(5):
         lists[k][: len(built[k])] = built[k]
@@ -228,14 +229,16 @@ def main():
     steps.seen.clear()
     run("book", ((book_case, case) for case in all_books))
     run("state", ((state_case, case) for case in all_states))
-    missing = [name for name in steps.wanted() if not steps.seen[name]]
+    met = {name for case in all_books for name in books.causes(*case)} | {name for name in steps.wanted() if steps.seen[name]}
+    causes = [*books.wanted(), *steps.wanted()]
+    missing = [name for name in causes if name not in met]
     if missing:
         sys.exit("calls: no case meets: " + "; ".join(missing))
     run("start", starts())
     run("no state", no_states())
     run(f"seed {seed}, case", fresh(random.Random(seed)))
     print(
-        f"calls: {counts[0]} books and {counts[1]} states with {counts[2]} steps, which meet {len(list(steps.wanted()))} causes, and "
+        f"calls: {counts[0]} books and {counts[1]} states with {counts[2]} steps, which meet {len(causes)} causes, and "
         f"{FRESH[0]} books and {FRESH[1] + FRESH[2]} states of seed {seed}: {made} calls tell and leave what the plain readings say"
     )
 

@@ -57,11 +57,17 @@ static void holds(const char *what, const lent *m, const uint32_t *wanted, size_
     if (memcmp(m->all + from, m->before + from, whole - from)) fail(what, 2, 3);
 }
 
-/* The book: its refusal, or its tokens. */
+/* A word of a token: its bytes in one of the orders in which they stand in an image. */
+typedef struct {
+    const uint8_t *bytes;
+    size_t size, token;
+} word;
+
+/* The book: its refusal, or its tokens and their words. */
 static struct {
-    size_t refusal, value, many, total, shortest, longest;
-    const uint8_t *body[256];
-    size_t size[256];
+    size_t refusal, value, many, words, total, shortest, longest;
+    word word[512];
+    uint8_t reversed[257][10];
 } told;
 
 static int refuse(size_t number, size_t value) {
@@ -69,8 +75,16 @@ static int refuse(size_t number, size_t value) {
     return 0;
 }
 
+/* The words of a token: its bytes and, of 4, 7 or 10, its bytes reversed, for which room is given, if they differ; how many there are. */
+static size_t words_of(const uint8_t *body, size_t size, size_t token, uint8_t *reversed, word words[2]) {
+    words[0] = (word){body, size, token}, words[1] = (word){reversed, size, token};
+    if (size != 4 && size != 7 && size != 10) return 1;
+    for (size_t i = 0; i < size; i++) reversed[i] = body[size - 1 - i];
+    return memcmp(body, reversed, size) ? 2 : 1;
+}
+
 static int read_book(const uint8_t *book, size_t len) {
-    told.refusal = told.value = told.many = told.total = told.longest = 0, told.shortest = 1024;
+    told.refusal = told.value = told.many = told.words = told.total = told.longest = 0, told.shortest = 1024;
     for (size_t at = 0;;) {
         if (at >= len) return refuse(1, len);
         size_t kind = book[at], size = kind <= 64 ? kind : kind <= 68 ? (size_t)128 << (kind - 65) : 0;
@@ -80,10 +94,13 @@ static int read_book(const uint8_t *book, size_t len) {
             return told.many ? 1 : refuse(6, 0);
         }
         if (at + 1 + size > len) return refuse(1, at);
-        if (told.many == 256 || told.total + size > 16384) return refuse(5, at);
-        for (size_t t = 0; t < told.many; t++)
-            if (told.size[t] == size && !memcmp(told.body[t], book + at + 1, size)) return refuse(4, at);
-        told.body[told.many] = book + at + 1, told.size[told.many++] = size, told.total += size;
+        word own[2];
+        size_t words = words_of(book + at + 1, size, told.many + 1, told.reversed[told.many], own);
+        if (told.many == 256 || told.total + words * size > 16384) return refuse(5, at);
+        for (size_t w = 0; w < told.words; w++)
+            if (told.word[w].size == size && !memcmp(told.word[w].bytes, book + at + 1, size)) return refuse(4, at);
+        for (size_t w = 0; w < words; w++) told.word[told.words++] = own[w];
+        told.many++, told.total += words * size;
         if (size < told.shortest) told.shortest = size;
         if (size > told.longest) told.longest = size;
         at += 1 + size;
@@ -103,14 +120,14 @@ static size_t child(size_t node, uint8_t x) {
 static void build(void) {
     memset(table, 0, sizeof table);
     nodes = 1;
-    for (size_t t = 0; t < told.many; t++) {
+    for (const word *w = told.word; w < told.word + told.words; w++) {
         size_t node = 0;
-        for (size_t k = told.size[t]; k-- > 0;) {
-            size_t v = child(node, told.body[t][k]);
-            if (!v) v = nodes++, table[0][v] = node, table[1][v] = told.body[t][k];
+        for (size_t k = w->size; k-- > 0;) {
+            size_t v = child(node, w->bytes[k]);
+            if (!v) v = nodes++, table[0][v] = node, table[1][v] = w->bytes[k];
             node = v;
         }
-        table[2][node] = t + 1;
+        table[2][node] = w->token;
     }
     for (size_t v = 1; v < nodes; v++) {
         if (!table[3][table[0][v]]) table[3][table[0][v]] = v;
@@ -119,7 +136,7 @@ static void build(void) {
     }
 }
 
-/* The hits by comparing each token at each end, the longer token first. */
+/* The hits by comparing each word at each end, the longer word first. */
 static uint32_t *hit_end, *hit_token;
 static size_t hits, hit_room;
 
@@ -132,43 +149,43 @@ static void hit(size_t end, size_t number) {
 }
 
 static void search(const uint8_t *image, size_t n) {
-    size_t order[256];
-    for (size_t t = 0; t < told.many; t++) {
-        size_t i = t;
-        for (; i && told.size[order[i - 1]] < told.size[t]; i--) order[i] = order[i - 1];
-        order[i] = t;
+    const word *order[512];
+    for (size_t w = 0; w < told.words; w++) {
+        size_t i = w;
+        for (; i && order[i - 1]->size < told.word[w].size; i--) order[i] = order[i - 1];
+        order[i] = &told.word[w];
     }
     hits = 0;
     for (size_t end = 1; end <= n; end++)
-        for (size_t i = 0; i < told.many; i++) {
-            size_t t = order[i];
-            if (told.size[t] <= end && !memcmp(image + end - told.size[t], told.body[t], told.size[t])) hit(end, t + 1);
+        for (size_t i = 0; i < told.words; i++) {
+            const word *w = order[i];
+            if (w->size <= end && !memcmp(image + end - w->size, w->bytes, w->size)) hit(end, w->token);
         }
 }
 
-/* Rule 5: token t, moved s to the right, agrees with byte x that k others lie right of. */
-static int agrees(size_t t, size_t s, size_t k, uint8_t x) {
-    return told.size[t] <= k + s || told.body[t][told.size[t] - 1 - (k + s)] == x;
+/* Rule 5: a word, moved s to the right, agrees with byte x that k others lie right of. */
+static int agrees(const word *w, size_t s, size_t k, uint8_t x) {
+    return w->size <= k + s || w->bytes[w->size - 1 - (k + s)] == x;
 }
 
 static size_t shift(const uint8_t *end, size_t d, int closed) {
     size_t node = 0, byte = closed ? 0 : 1;
     for (size_t s = 1; s < told.shortest && !(node && byte); s++)
-        for (size_t t = 0; t < told.many; t++) {
+        for (const word *w = told.word; w < told.word + told.words; w++) {
             size_t k = 0;
-            while (k < d && agrees(t, s, k, end[-1 - (ptrdiff_t)k])) k++;
+            while (k < d && agrees(w, s, k, end[-1 - (ptrdiff_t)k])) k++;
             if (k == d && !node) node = s;
-            if (!byte && agrees(t, s, d, end[-1 - (ptrdiff_t)d])) byte = s;
+            if (!byte && agrees(w, s, d, end[-1 - (ptrdiff_t)d])) byte = s;
         }
     if (!node) node = told.shortest;
     if (!byte) byte = told.shortest;
     return node > byte ? node : byte;
 }
 
-/* The d bytes before `end` are an ending of a token that has at least `more` bytes in front of it. */
+/* The d bytes before `end` are an ending of a word that has at least `more` bytes in front of it. */
 static int ending(const uint8_t *end, size_t d, size_t more) {
-    for (size_t t = 0; t < told.many; t++)
-        if (told.size[t] >= d + more && !memcmp(told.body[t] + told.size[t] - d, end - d, d)) return 1;
+    for (const word *w = told.word; w < told.word + told.words; w++)
+        if (w->size >= d + more && !memcmp(w->bytes + w->size - d, end - d, d)) return 1;
     return 0;
 }
 
@@ -267,30 +284,64 @@ static void add_random(size_t count, size_t size, uint32_t letters) {
     }
 }
 
-/* A small book over few letters, an image with its tokens in it; now and then a damaged book, or tables too short. */
-static void random_case(void) {
-    static const size_t sizes[] = {1, 1, 2, 2, 3, 3, 4, 5, 6, 8, 12, 16, 30, 64, 128};
-    uint32_t letters = 1 + below(3);
-    size_t lens[5], n = below(2) ? below(40) : below(400);
+static void turn(uint8_t *bytes, size_t n) {
+    for (size_t i = 0; i < n / 2; i++) {
+        uint8_t x = bytes[i];
+        bytes[i] = bytes[n - 1 - i], bytes[n - 1 - i] = x;
+    }
+}
+
+/* One token more, the book's first reversed, which has this size. */
+static void add_first_turned(size_t size) {
+    uint8_t body[64];
+    memcpy(body, book + 1, size);
+    turn(body, size);
+    add(body, size);
+}
+
+/* A token, or its bytes reversed, at a place of the image. */
+static void plant(const uint8_t *body, size_t size, size_t at) {
+    memcpy(image + at, body, size);
+    if (below(2)) turn(image + at, size);
+}
+
+/* A small book over few letters, some of its bodies an ending of another one's reverse; how many bytes its bodies have. */
+static size_t random_book(uint32_t letters) {
+    static const size_t sizes[] = {1, 1, 2, 2, 3, 3, 4, 4, 4, 5, 6, 7, 7, 8, 10, 10, 12, 16, 30, 64, 128};
+    uint8_t body[128];
+    size_t size = 0, own = 0;
     book_len = 0;
     for (size_t many = 1 + below(6); many; many--) {
-        uint8_t body[128];
-        size_t size = sizes[below(sizeof sizes / sizeof *sizes)], same_letter = below(3);
-        for (size_t i = 0; i < size; i++) body[i] = same_letter ? 'a' + below(letters) : 'a';
-        if (!below(4)) body[0] = 'b';
+        if (size && size <= 64 && !below(5)) {
+            size = below(3) ? 1 + below(size) : size;
+            turn(body, size);
+        } else {
+            size_t same_letter = below(3);
+            size = sizes[below(sizeof sizes / sizeof *sizes)];
+            for (size_t i = 0; i < size; i++) body[i] = same_letter ? 'a' + below(letters) : 'a';
+            if (!below(4)) body[0] = 'b';
+        }
         add(body, size);
+        own += size;
     }
     book[book_len++] = 0;
+    return own;
+}
+
+/* A small book, an image with its tokens in it; now and then a damaged book, or tables too short, some with room for the bodies alone. */
+static void random_case(void) {
+    uint32_t letters = 1 + below(3);
+    size_t lens[5], n = below(2) ? below(40) : below(400), own = random_book(letters);
     for (size_t i = 0; i < n; i++) image[i] = 'a' + below(letters);
     for (size_t k = below(4), at = 0; k && at < book_len; k--) {
         size_t size = book[at] <= 64 ? book[at] : 128;
-        if (size && size <= n) memcpy(image + below(n - size + 1), book + at + 1, size);
+        if (size && size <= n) plant(book + at + 1, size, below(n - size + 1));
         at += 1 + size;
     }
     if (!below(4)) book_len = below(book_len + 1);
     if (!below(4) && book_len) book[below(book_len)] = below(3) ? below(70) : some();
     if (!below(8)) book[book_len++] = some();
-    for (int i = 0; i < 5; i++) lens[i] = below(6) ? 700 + below(100) : below(600);
+    for (int i = 0; i < 5; i++) lens[i] = below(6) ? 700 + below(100) : below(4) ? below(600) : 1 + own;
     check(book, book_len, image, n, lens);
 }
 
@@ -299,7 +350,7 @@ static void nested_book(const uint8_t body[64]) {
     uint64_t taken = 0;
     book_len = 0;
     for (size_t many = 2 + below(9); many; many--) {
-        size_t size = 1 + below(below(2) ? 6 : 64);
+        size_t size = 1 + below(below(2) ? 10 : 64);
         if (taken >> (size - 1) & 1) continue;
         taken |= (uint64_t)1 << (size - 1);
         add(body + 64 - size, size);
@@ -307,12 +358,12 @@ static void nested_book(const uint8_t body[64]) {
     book[book_len++] = 0;
 }
 
-/* An image of endings of that body, of which some are spoilt; its length. */
+/* An image of endings of that body, of which some are reversed or spoilt; its length. */
 static size_t nested_image(const uint8_t body[64], uint32_t letters) {
     size_t n = 0, least = 20 + below(120);
     while (n < least) {
         size_t size = 1 + below(64);
-        memcpy(image + n, body + 64 - size, size);
+        plant(body + 64 - size, size, n);
         n += size;
         if (!below(3)) image[n - 1 - below(size)] = 'a' + below(letters + 1);
     }
@@ -353,19 +404,33 @@ static void every_length(int falling) {
     full(1100);
 }
 
+/* 20,000 random bytes with the book's first token, of this size, in either order. */
+static void random_image(size_t size) {
+    for (size_t i = 0; i < 20000; i++) image[i] = some();
+    for (size_t at = 5000; at < 20000; at += 5000) plant(book + 1, size, at);
+}
+
 int main(void) {
     image = malloc(LIMIT + 1);
     for (int i = 0; i < 4000; i++) random_case();
     for (int i = 0; i < 300; i++) nested_case();
     every_length(0), every_length(1);
-    /* The largest books, one token more, and 256 and 257 tokens. */
-    static const size_t many[] = {16, 17, 256, 257, 256, 256}, size[] = {1024, 1024, 8, 8, 64, 65};
-    for (int i = 0; i < 5; i++) {
+    /* The largest books, one token more, and 256 and 257 tokens; the last one is the first reversed, and 5 comes before 4. */
+    static const size_t many[] = {16, 17, 256, 257, 256, 256, 257, 256}, size[] = {1024, 1024, 8, 8, 64, 7, 7, 7};
+    for (int i = 0; i < 8; i++) {
         book_len = 0;
         add_random(many[i], size[i], 0);
+        if (i == 7) add_first_turned(7);
         book[book_len++] = 0;
-        for (size_t k = 0; k < 20000; k++) image[k] = some();
-        memcpy(image + 5000, book + 1, size[i]);
+        random_image(size[i]);
+        full(20000);
+    }
+    /* As many bytes of words as there may be, by a last token that reads the same backwards; and more, by one that does not. */
+    for (int i = 0; i < 2; i++) {
+        book_len = 0;
+        add_random(51, 10, 0), add_random(15, 1024, 0), add((const uint8_t *)(i ? "abbc" : "abba"), 4);
+        book[book_len++] = 0;
+        random_image(10);
         full(20000);
     }
     /* The largest image, and one byte more: first of one letter, then random. */

@@ -22,7 +22,7 @@ import tables
 from calls import Differs, told
 from proved import BYTES, HITS, NUMBERS, Byte, Lent
 
-COUNTS = (173, 748)  # pairs, and merges of them
+COUNTS = (253, 1476)  # pairs, and merges of them
 FRESH, SWEPT = 4200, 300  # random pairs, and those of them that are swept
 LONGEST = 2000  # bytes of a merged book to sweep with: a step goes over all its nodes
 
@@ -51,35 +51,47 @@ def merge_case(first, second, room):
 
 def at_limits(bodies):
     """The limits that these bodies just keep."""
-    return ["256 tokens"] * (len(bodies) == 256) + ["16,384 body bytes"] * (sum(map(len, bodies)) == 16384)
+    return ["256 tokens"] * (len(bodies) == 256) + ["16,384 body bytes"] * (tables.body_bytes(bodies) == 16384)
 
 
 def over(tokens, others, place):
     """How the record at a place of the second book, with these others as its bodies, brings the merged book over its limits."""
     places = list(itertools.accumulate((1 + len(body) for body in others), initial=0))
     i = places.index(place)
-    before = tokens + [body for body in others[:i] if body not in tokens]
-    bodies = sum(map(len, before)) + len(others[i])
+    before = tokens + [body for body in others[:i] if not tables.has(tokens, body)]
+    bodies = tables.body_bytes(before + [others[i]])
     yield "5 by tokens" if len(before) == 256 and bodies <= 16384 else "5 by bodies" if len(before) < 256 else "5 by both"
     yield from ["5 by one byte"] * (bodies == 16385)
+    yield from ["5 by a reverse"] * (len(before) < 256 and tables.body_bytes(before) + len(others[i]) <= 16384)
     yield from ["5 at the first record"] * (i == 0)
     yield from ["5 behind a new token"] * (len(before) > len(tokens))
     yield from ["5 behind a common token"] * (len(before) - len(tokens) < i)
-    if i > 0 and others[i - 1] in tokens:
+    if i > 0 and tables.has(tokens, others[i - 1]):
         yield from (f"5 behind a common token at {limit}" for limit in at_limits(before))
-    yield from ["5 before a record that would fit"] * any(bodies - len(others[i]) + len(body) <= 16384 for body in others[i + 1 :])
+    if i > 0 and books.reversed_in(tokens, others[i - 1]):
+        yield from (f"5 behind a reversed token at {limit}" for limit in at_limits(before))
+    yield from ["5 before a record that would fit"] * any(tables.body_bytes(before + [body]) <= 16384 for body in others[i + 1 :])
 
 
 def written(tokens, others, needed, room):
     """What is met where both books can be merged."""
-    new = [body for body in others if body not in tokens]
+    new = [body for body in others if not tables.has(tokens, body)]
     if room < needed:
         yield from ["14"] + ["14 by one byte"] * (room == needed - 1) + ["14 with no room"] * (room == 0)
         return
     yield "nothing new" if not new else "nothing common" if len(new) == len(others) else "new and common"
     yield from at_limits(tokens + new)
     yield from (f"nothing new at {limit}" for limit in at_limits(tokens))
+    yield from reversals(tokens, new, others)
     yield "bytes behind" if room > needed else "no byte behind"
+
+
+def reversals(tokens, new, others):
+    """What is met by bodies of the second book that are the first's reversed."""
+    turned = [body for body in others if books.reversed_in(tokens, body)]
+    yield from ["nothing but reversed tokens"] * (turned == others)
+    yield from (f"{limit} with reversed tokens" for limit in at_limits(tokens + new) if turned)
+    yield from (f"the reverse of {len(body)} bytes is new" for body in new if body[::-1] in tokens)
 
 
 def causes(first, second, room):
@@ -88,7 +100,10 @@ def causes(first, second, room):
     refusal = f"{reading[1]} of the first book" if reading[0] == "refused" else f"13 with {other[1]}" if other[0] == "refused" else None
     if refusal:
         new = [body for body in tables.whole_bodies(second) if not tables.contains(first, body)]
+        bad, (_, number, place) = (first, reading) if reading[0] == "refused" else (second, other)
         yield refusal
+        yield from [f"{refusal}, by a reverse"] * (number == 4 and books.reversed_in(*books.refused_at(bad, place)))
+        yield from ["13 with 4 of common tokens"] * (refusal == "13 with 4" and new == [])
         yield from [f"{refusal}, before 14"] * (room == 0)
         yield from [f"{refusal}, before 13"] * (reading[0] == other[0])
         yield from ["13 before 5"] * (reading[0] == "accepted" and len(reading[1]) == 256 and new != [])
@@ -103,20 +118,28 @@ def wanted():
     for n in range(1, 7):
         yield from (f"{n} of the first book", f"{n} of the first book, before 13", f"{n} of the first book, before 14")
         yield from (f"13 with {n}", f"13 with {n}, before 14")
+    yield from ("4 of the first book, by a reverse", "13 with 4, by a reverse", "13 with 4 of common tokens")
     yield from ("13 before 5", "5 by tokens", "5 by bodies", "5 by both", "5 by one byte", "5 at the first record", "5 behind a new token")
-    yield from ("5 behind a common token", "5 before a record that would fit", "5 before 14")
+    yield from ("5 behind a common token", "5 before a record that would fit", "5 before 14", "5 by a reverse")
     for limit in ("256 tokens", "16,384 body bytes"):
         yield from (limit, f"5 behind a common token at {limit}", f"nothing new at {limit}")
+        yield from (f"{limit} with reversed tokens", f"5 behind a reversed token at {limit}")
     yield from ("14", "14 by one byte", "14 with no room")
-    yield from ("nothing new", "nothing common", "new and common", "bytes behind", "no byte behind")
+    yield from ("nothing new", "nothing common", "new and common", "bytes behind", "no byte behind", "nothing but reversed tokens")
+    yield from (f"the reverse of {n} bytes is new" for n in (3, 5, 6, 8, 9, 11))
 
 
 # Sweeps with the two books and with the merged one
 
 
+def room_for(book):
+    """Tables with just room for this book."""
+    return calls.lend([[0] * (1 + tables.body_bytes(tables.read(book)[1]))] * 5)
+
+
 def by_bytes(book, image):
     """The hits (end, token) of the sweep by single bytes."""
-    lent, state, slices = Lent(BYTES, book), Lent(NUMBERS, [0] * steps.SIZE), calls.lend([[0] * len(book)] * 5)
+    lent, state, slices = Lent(BYTES, book), Lent(NUMBERS, [0] * steps.SIZE), room_for(book)
     _, nodes, shortest, *_ = proved.call("probe_build", lent, *slices)
     proved.call("probe_start", state, len(image), shortest, nodes)
     hits, (kind, *values) = [], proved.call("probe_carry_on", state, *slices)
@@ -135,7 +158,7 @@ def as_a_whole(book, image):
     """Those of the gateway's sweep."""
     most = len(image) * len(tables.read(book)[1])
     ends, tokens = Lent(HITS, [0] * most), Lent(HITS, [0] * most)
-    refusal, value, hits, _ = proved.sweep(Lent(BYTES, book), Lent(BYTES, image), *calls.lend([[0] * len(book)] * 5), ends, tokens)
+    refusal, value, hits, _ = proved.sweep(Lent(BYTES, book), Lent(BYTES, image), *room_for(book), ends, tokens)
     if refusal:
         raise Differs(f"the sweep of the whole image is refused: {refusal} {value}")
     return list(zip(ends.content()[:hits], tokens.content()[:hits]))
@@ -146,13 +169,14 @@ def by_search(book, image):
 
 
 def swept(book, image):
-    """The hits as pairs of end and token bytes; every way of sweeping finds the same, in the same order."""
+    """The hits as pairs of end and token bytes, a body and its reverse being one token; every way of sweeping finds the same, in the same
+    order."""
     bodies, plain = tables.read(book)[1], by_search(book, image)
     for way in (by_bytes, as_a_whole):
         hits = way(book, image)
         if hits != plain:
             raise Differs(f"{way.__name__} finds {hits}, a search {plain}")
-    return [(end, bodies[number - 1]) for end, number in plain]
+    return [(end, min(tables.words(bodies[number - 1]))) for end, number in plain]
 
 
 def joined(hits, others):

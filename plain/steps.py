@@ -1,8 +1,8 @@
 """The sweep by single bytes and by packets, plainly, from the papers alone, and states to step from.
 
 A case is five tables, a state and the calls made from it: CARRY to carry on, a byte to supply, or a packet, which is a run of bytes. `seen`
-counts the causes of refusals 9, 10, 11 and 15, the ends of ranges, the kinds of answers and the ways packets ended that calls met; `wanted`
-names those that some case must meet.
+counts the causes of refusals 9, 10, 11 and 15, the ends of ranges, the kinds of answers, the ways packets ended and what reverses made that
+calls met; `wanted` names those that some case must meet.
 """
 import collections
 import copy
@@ -27,7 +27,8 @@ class State:
         self.node, self.depth, self.due, self.supplied = node, depth, due, supplied
         self.slots = [list(s) for s in slots] + [[0, 0, 0] for _ in range(5 - len(slots))]
         self.end, self.hit = end, hit  # of the hits left: their end, and the node of the next
-        self.said = None  # the last answer's word; no part of the state
+        # No parts of the state: the last answer's word, the last hit's node, and of a book's tables the nodes where a reverse ends.
+        self.said, self.met, self.reverses = None, 0, frozenset()
 
     def numbers(self):
         first = [self.image, self.shortest, self.count, self.boundary, self.node, self.depth, int(self.due), self.supplied]
@@ -78,8 +79,9 @@ def recall(lists, state, place):
     return None
 
 
-def shift(lists, s, closing):
-    words = [ending(lists, v) for v in range(s.count) if lists[2][v]]
+def shifts(lists, s, closing, left_out=frozenset()):
+    """Rule 5: the node shift and the byte shift, by the words of all nodes with a number but those left out."""
+    words = [ending(lists, v) for v in range(s.count) if lists[2][v] and v not in left_out]
     u = ending(lists, s.node)
 
     def agrees(t, by, k, x):
@@ -90,7 +92,7 @@ def shift(lists, s, closing):
 
     node = least(lambda t, by: all(agrees(t, by, k, u[len(u) - 1 - k]) for k in range(len(u))))
     byte = 1 if closing is None else least(lambda t, by: agrees(t, by, len(u), closing))
-    return max(node, byte)
+    return node, byte
 
 
 def end_round(lists, s, last, closing=None):
@@ -104,7 +106,8 @@ def end_round(lists, s, last, closing=None):
     node = s.node
     for _ in range(s.depth - (b - left)):
         node = lists[0][node]
-    after = b + shift(lists, s, closing)
+    after = b + max(shifts(lists, s, closing))
+    note_shifts(lists, s, closing)
     stretches = [m for m in left_over + [[left, b, node]] if kept(after, m)]
     seen["rule 4: forgotten"] += len(left_over) < len(s.stretches())
     seen["rule 4: cut"] += left > start
@@ -125,9 +128,10 @@ def take(lists, s, x, last="supplied"):
 
 def answered(lists, s):
     """The next of the hits left, from the longest token to the shortest; the one after it is next then."""
-    node = s.hit
-    said = f"hit {s.end} {lists[2][node]}"
-    s.hit = next(carriers(lists, lists[0][node]), 0)
+    s.met = s.hit
+    said = f"hit {s.end} {lists[2][s.met]}"
+    seen["hit of a reverse at an inner node"] += s.met in s.reverses and lists[3][s.met] > 0
+    s.hit = next(carriers(lists, lists[0][s.met]), 0)
     s.end = s.end if s.hit else 0
     return said
 
@@ -324,6 +328,7 @@ KINDS = ("carrying on", "supplying", "a packet")
 ENDS = ("a closing byte", "no child", "the image's start")
 LAST = ("supplied", "of a packet", "remembered", "before the call")
 HITS = (("the only hit of a round", "the first of several hits"), ("the last of several hits", "one of several hits"))
+SHIFTS = ("a node shift", "a byte shift", "a shift")
 # Whether a packet has bytes left, how many it used, and what it answered, seen from the place of the last one used.
 RESTS, USED = ("used whole", "with bytes left"), ("no byte", "one byte", "several bytes")
 NEXT, THEN = "fetch the next place down", ("hit", "done", "fetch a higher place", "fetch a place below a stretch")
@@ -345,6 +350,9 @@ def wanted():
     yield from (f"9: shortest of 4, {name}" for name in TABLES)
     yield from (f"within: {what}" for what in WITHIN)
     yield from ("rule 2: remembered", "rule 4: forgotten", "rule 4: cut", "rule 6: not kept", "rule 6: just kept")
+    yield from (f"rule 5: {what} that only a reverse makes" for what in SHIFTS)
+    yield from (f"{what}, of a reverse" for what in (*HITS[False], *HITS[True]))
+    yield from ("hit of a reverse at an inner node", *(f"hit of a reverse, {kind}" for kind in KINDS))
 
 
 def wanted_of_packets():
@@ -378,6 +386,14 @@ def note_end(lists, s, last, closing):
     """How a round ended; it still stands where it ended."""
     for how, holds in zip(ENDS, (closing is not None, not lists[3][s.node], s.depth == s.boundary)):
         seen[f"{'hits' if s.hit else 'no hit'} of a round ended by {how}, its last byte {last}"] += holds
+
+
+def note_shifts(lists, s, closing):
+    """Which shifts would be greater without the words that are reverses."""
+    if s.reverses:
+        found, own = shifts(lists, s, closing), shifts(lists, s, closing, s.reverses)
+        for what, by, other in zip(SHIFTS, (*found, max(found)), (*own, max(own))):
+            seen[f"rule 5: {what} that only a reverse makes"] += by < other
 
 
 def follows(last, said):
@@ -420,6 +436,8 @@ def note_answer(s, word, kind, left):
     """What a call answered; `left`: a hit was left before it."""
     if word == "hit":
         seen[f"{HITS[left][s.hit > 0]}, {kind}"] += 1
+        seen[f"{HITS[left][s.hit > 0]}, of a reverse"] += s.met in s.reverses
+        seen[f"hit of a reverse, {kind}"] += s.met in s.reverses
         seen[f"hit when b > N, {kind}"] += s.boundary > s.image
     seen[f"{word}, {kind}"] += 1
     seen[f"{word} after {s.said}"] += 1
@@ -559,10 +577,18 @@ def swept_by_packets(lists, words, image, size):
     return case
 
 
+def reverses(lists, bodies):
+    """The nodes of a book's tables where a token's reverse ends."""
+    backwards = {word for body in bodies for word in tables.words(body)[1:]}
+    return frozenset(v for v in range(len(lists[0])) if lists[2][v] and ending(lists, v) in backwards)
+
+
 def sweep(bodies, image, size=None):
     """By single bytes, or by packets as long as `size` says."""
-    given = tables.build(bodies), list(enumerate(bodies, 1)), image
-    return swept_by_packets(*given, size) if size else swept(*given)
+    given = tables.build(bodies), tables.spelled(bodies), image
+    case = swept_by_packets(*given, size) if size else swept(*given)
+    case[1].reverses = reverses(given[0], bodies)
+    return case
 
 
 def samples():
@@ -580,6 +606,13 @@ def samples():
         ([b"x", b"bx", b"bbx", b"xbbx", b"axbbx"], b"axbbxbbxcbxaxbbx", None),
         ([b"axbbx", b"bx", b"xbbx", b"ccaxbbx", b"b", b"xb"], b"bbxccaxbbxbbxb", None),
         ([b"abab", b"ab", b"bab", b"b", b"ababab"], b"abababababbab", None),
+        ([b"abcd"], b"dcba", "3 2 1 0"),
+        ([b"abcd", b"edc"], b"dcbaxedcbabcdcba", None),
+        ([b"abcdefg", b"dcba", b"xabcd"], b"gfedcbabcdefgxdcbaxabcd", None),
+        ([b"zyxdcbaxy", b"abcd", b"xdcba", b"ba", b"xyzabcd"], b"zyxdcbaxyzabcdxdcbabcdcbazyx", None),
+        ([b"abcdefghij", b"hgfedcb", b"dcba"], b"jihgfedcbaabcdefghijihgfedcbabc", None),
+        ([b"aabb", b"abba", b"aab", b"bbaab"], b"bbaabbaaabbabbaabb", None),
+        ([b"abc", b"abcde", b"abcdef", b"bcdefghi"], b"cbaedcbafedcbaihgfedcbabcdefghi", None),
     ):
         lists, state, calls, places = sweep(bodies, image)
         assert fetched is None or places == list(map(int, fetched.split()))
@@ -752,7 +785,8 @@ def large():
 
 
 def uneven():
-    """Tables that no building made: no child, no token, siblings with one label, a node that no chain leads to, a number many times."""
+    """Tables that no building made: no child, no token, siblings with one label, a token's bytes in one order alone, a node that no chain
+    leads to, a number many times."""
     yield [[0]] * 5, State(3, 1, 1), [CARRY, CARRY]
     bare = [[0, 0], [0, 97], [0, 0], [1, 0], [0, 0]]
     yield bare, State(5, 2, 2), [CARRY, 97, 97, 98, CARRY, 97]
@@ -762,6 +796,8 @@ def uneven():
     yield mute, State(60, 5, 21, 25, due=True, slots=[(5, 24, 19)]), [b"aa", b"a" * 9, CARRY, b"a" * RUN]
     twins = [[0, 0, 0], [0, 97, 97], [0, 1, 2], [1, 0, 0], [0, 2, 0]]
     yield twins, State(3, 1, 3), [CARRY, 97, CARRY, 97, CARRY, 98]
+    one_way = [[0, 0, 1, 2, 3], [0, *b"dcba"], [0, 0, 0, 0, 1], [1, 2, 3, 4, 0], [0] * 5]
+    yield from (swept(one_way, [(1, b"abcd")], image)[:3] for image in (b"dcba", b"dcbaxdcbabcdcba"))
     stray = [[0, 0, 1], [0, 97, 98], [0, 0, 3], [1, 0, 0], [0, 0, 0]]
     yield stray, State(6, 2, 3), [CARRY, 97, CARRY, 98, 97, 97, CARRY]
     yield stray, State(6, 2, 3), [CARRY, b"ab", b"ba", CARRY, b"aaa", b"a"]
@@ -779,14 +815,14 @@ SIZES = (0, 1, 1, 2, 2, 5, 5, 63, 64, 65, 100)  # of random packets
 
 
 def some_bodies(rng):
-    """A few bodies of two letters, often with endings of one of them."""
-    sizes = [1, 2, 3, 4, 5, 8, 16]
+    """A few bodies of two letters, often with endings of one of them, or of its reverse."""
+    sizes = [1, 2, 3, 4, 4, 5, 7, 8, 10, 16]
     bodies = [bytes(rng.choice(b"ab") for _ in range(rng.choice(sizes))) for _ in range(rng.randint(1, 4))]
     if rng.random() < 0.5:
-        body = rng.choice(bodies)
+        body = rng.choice(bodies)[:: rng.choice([1, -1])]
         bodies += [body[-rng.randint(1, len(body)) :] for _ in range(rng.randint(1, 5))]
         rng.shuffle(bodies)
-    return list(dict.fromkeys(bodies))
+    return tables.distinct(bodies)
 
 
 def some_image(rng):
@@ -890,7 +926,9 @@ def some_sweep(rng):
     bodies, image = some_bodies(rng), some_image(rng)
     if rng.random() < 0.1:
         body = b"a" * rng.randint(0, 60) + b"b" + b"a" * rng.randint(0, 40)
-        bodies, image = list(dict.fromkeys([body, body[rng.randrange(len(body)) :]])), image + body + body[30:]
+        bodies, image = tables.distinct([body, body[rng.randrange(len(body)) :]]), image + body + body[30:]
+    elif rng.random() < 0.5:
+        image = image[:16] + rng.choice(bodies)[::-1] + rng.choice(bodies)
     return sweep(bodies, image, rng.choice([None, lambda: rng.randint(1, rng.choice([3, RUN]))]))[:3]
 
 

@@ -63,20 +63,20 @@ ALL = 1 << 40  # more bytes than any file has
 def search(bodies, image):
     """All hits (end, token), by rising end and, at one end, by falling length."""
     at_end = {}
-    for length, number in sorted(((len(body), number) for number, body in enumerate(bodies, 1)), reverse=True):
-        at = image.find(bodies[number - 1])
+    for number, word in sorted(tables.spelled(bodies), key=lambda spelled: -len(spelled[1])):
+        at = image.find(word)
         while at >= 0:
-            at_end.setdefault(at + length, []).append(number)
-            at = image.find(bodies[number - 1], at + 1)
+            at_end.setdefault(at + len(word), []).append(number)
+            at = image.find(word, at + 1)
     return [(end, number) for end in sorted(at_end) for number in at_end[end]]
 
 
-def shift(bodies, shortest, matched, closing):
+def shift(words, shortest, matched, closing):
     """Rule 5."""
     d = len(matched)
 
     def least(agrees):
-        return next((s for s in range(1, shortest) if any(agrees(t, s) for t in bodies)), shortest)
+        return next((s for s in range(1, shortest) if any(agrees(t, s) for t in words)), shortest)
 
     def over(t, s):
         n = min(d, len(t) - s)
@@ -89,7 +89,8 @@ def shift(bodies, shortest, matched, closing):
 
 def fetches(bodies, image):
     """How many bytes the reading rules fetch, round by round."""
-    endings = {body[k:] for body in bodies for k in range(len(body) + 1)}
+    words = [word for _, word in tables.spelled(bodies)]
+    endings = {word[k:] for word in words for k in range(len(word) + 1)}
     inner = {ending[1:] for ending in endings if ending}
     shortest, longest = min(map(len, bodies)), max(map(len, bodies))
     b, stretches, fetched, shifts = shortest, [], 0, {}
@@ -105,7 +106,7 @@ def fetches(bodies, image):
         left_over = [s for s in stretches if s[0] < b - d]
         new = (max([b - d] + [right for _, right in left_over]), b)
         if (matched, closing) not in shifts:
-            shifts[matched, closing] = shift(bodies, shortest, matched, closing)
+            shifts[matched, closing] = shift(words, shortest, matched, closing)
         b += shifts[matched, closing]
         stretches = [(left, right) for left, right in [*left_over, new] if 4 * (b - right) <= right - left]
     return fetched
@@ -299,7 +300,7 @@ def many_hits():
 
 
 def inside():
-    """Tokens inside tokens, in three orders of the book: of one letter, of a few, and an ending of one body for each length."""
+    """Tokens inside tokens and reverses, in three orders of the book: of one letter, of a few, an ending of one body for each length."""
     body = bytes(i % 251 for i in range(1024))
     every = [body[-n:] for n in LENGTHS]
     cut = b"".join(body[-n:] for n in (*range(1, 70), 127, 128, 129, 300, 512, 1023, 1024, 1))
@@ -308,6 +309,9 @@ def inside():
         ("a to aaaa", [b"a" * n for n in range(1, 5)], b"aaaaabaaaab" * 9),
         ("x to axbbx", [b"x", b"bx", b"bbx", b"xbbx", b"axbbx"], b"axbbxbbxcbx" * 9),
         ("every length", every, cut),
+        ("every length, reversed", every, cut[::-1]),
+        ("every length, of the reverse", [word[::-1] for word in every], cut),
+        ("abcd in others", [b"abcd", b"xdcba", b"dcbaxyz", b"abcdxyzuvw", b"cba", b"dcb"], b"wvuzyxdcbaxyzabcdxdcbabcdxyzuvw" * 9),
     ):
         yield f"{name}, rising", books.book_of(bodies), image
         yield f"{name}, falling", books.book_of(bodies[::-1]), image
@@ -319,34 +323,41 @@ def edge(longest, k):
     return PART + (k - 1) * (PART - (longest - 1))
 
 
+def across(word, off):
+    """An image of one letter with a word, the longest there is, that ends so many bytes behind each part."""
+    image = bytearray(b"a" * IMAGE)
+    for k in range(1, 100):
+        end = edge(len(word), k) + off
+        if end <= IMAGE:
+            image[end - len(word) : end] = word
+    return bytes(image)
+
+
 def at_edges():
-    """Images that end at the end of a part, a byte before and a byte behind it; tokens that lie across the parts' ends."""
+    """Images that end at the end of a part, a byte before and a byte behind it; tokens, and reverses, that lie across the parts' ends."""
     for lengths, k in ((range(1, 6), 14), (LENGTHS, 2), (LENGTHS, 3)):
         for n in (-1, 0, 1):
             yield f"image of {k} parts and {n} bytes", books.book_of([b"a" * m for m in lengths]), b"a" * (edge(max(lengths), k) + n)
-    long = books.numbered(1, 1024)
-    bodies = [b"a" * m for m in range(1, 9)] + [long[-64:], long, long[-2:], long[-512:], long[-1:], long[:1], long[:64]]
+    many, long, card = [b"a" * m for m in range(1, 9)], books.numbered(1, 1024), b"bcdefghijk"
+    parts = [long[-64:], long, long[-2:], long[-512:], long[-1:], long[:1], long[:64]]
     for off in (-1, 0, 1, 2, 511, 1022, 1023, 1024, 1025):
-        image = bytearray(b"a" * IMAGE)
-        for k in range(1, 100):
-            end = edge(1024, k) + off
-            if end <= IMAGE:
-                image[end - 1024 : end] = long
-        yield f"long tokens that end {off} behind a part", books.book_of(bodies), bytes(image)
+        yield f"long tokens that end {off} behind a part", books.book_of(many + parts), across(long, off)
+    for off in (0, 3, 9):
+        yield f"reverses that end {off} behind a part", books.book_of(many + [card, card[:7], card[:4]]), across(card[::-1], off)
 
 
 def planted(rng, bodies):
-    """An image of few letters with tokens in it."""
+    """An image of few letters with tokens in it, many of them reversed."""
     image = bytearray(rng.choice(b"abc"[: rng.randint(1, 3)]) for _ in range(rng.choice([40, 400])))
     for body in bodies:
         at = rng.randint(0, len(image))
-        image[at : at + len(body)] = body
+        image[at : at + len(body)] = body[:: rng.choice([1, -1])]
     return bytes(image)
 
 
 def some(rng):
     """The books of books.py, damaged ones too, and random ones."""
-    for i, (book, *_) in enumerate(books.cases()):
+    for i, book in enumerate(dict.fromkeys(book for book, *_ in books.cases())):
         reading = tables.read(book)
         yield f"book {i}", book, planted(rng, reading[1] if reading[0] == "accepted" else [])
     for i in range(300):

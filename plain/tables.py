@@ -1,11 +1,42 @@
 """Books and tree tables, plainly, from the papers alone: what the proved calls are compared with."""
 
 LENGTHS = {k: k for k in range(1, 65)} | {65: 128, 66: 256, 67: 512, 68: 1024}
+BOTH_ORDERS = (4, 7, 10)  # tokens of so many bytes stand in an image in either byte order
+
+
+def words(body):
+    """The words of a token: its bytes and, at these lengths, its bytes reversed, if they differ."""
+    back = body[::-1]
+    return [body, back] if len(body) in BOTH_ORDERS and back != body else [body]
+
+
+def spelled(bodies):
+    """The words of these tokens, each behind its token's number, in the order in which the tree takes them."""
+    return [(number, word) for number, body in enumerate(bodies, 1) for word in words(body)]
+
+
+def body_bytes(bodies):
+    """All body bytes: those of all words."""
+    return sum(len(word) for _, word in spelled(bodies))
+
+
+def has(bodies, body):
+    """Whether a body is one of these tokens: whether one of its words is among them."""
+    return any(word in bodies for word in words(body))
+
+
+def distinct(bodies):
+    """The bodies without repeats."""
+    out = []
+    for body in bodies:
+        if not has(out, body):
+            out.append(body)
+    return out
 
 
 def read(book):
     """('accepted', bodies) or ('refused', number, value)."""
-    bodies, at = [], 0
+    bodies, total, at = [], 0, 0
     while True:
         if at >= len(book):
             return ("refused", 1, len(book))
@@ -20,9 +51,10 @@ def read(book):
         if at + 1 + size > len(book):
             return ("refused", 1, at)
         body = bytes(book[at + 1 : at + 1 + size])
-        if len(bodies) == 256 or sum(map(len, bodies)) + size > 16384:
+        total += body_bytes([body])
+        if len(bodies) == 256 or total > 16384:
             return ("refused", 5, at)
-        if body in bodies:
+        if has(bodies, body):
             return ("refused", 4, at)
         bodies.append(body)
         at += 1 + size
@@ -55,8 +87,8 @@ def whole_bodies(book):
 
 
 def contains(book, body):
-    """Whether one of these is the body, be the book accepted or not."""
-    return body in whole_bodies(book)
+    """Whether the body is one of these as a token, be the book accepted or not."""
+    return has(whole_bodies(book), body)
 
 
 def merge(first, second, room):
@@ -66,11 +98,11 @@ def merge(first, second, room):
         return reading
     if other[0] == "refused":
         return ("refused", 13, other[1])
-    tokens, bodies, records, at = len(reading[1]), sum(map(len, reading[1])), first[:-1], 0
+    tokens, bodies, records, at = len(reading[1]), body_bytes(reading[1]), first[:-1], 0
     for body in other[1]:
         end = at + 1 + len(body)
-        if body not in reading[1]:
-            tokens, bodies, records = tokens + 1, bodies + len(body), records + second[at:end]
+        if not has(reading[1], body):
+            tokens, bodies, records = tokens + 1, bodies + body_bytes([body]), records + second[at:end]
             if tokens > 256 or bodies > 16384:
                 return ("refused", 5, at)
         at = end
@@ -79,11 +111,11 @@ def merge(first, second, room):
 
 
 def build(bodies):
-    """The five tables, as lists: nodes are endings in order of first occurrence."""
+    """The five tables, as lists: nodes are endings of words in order of first occurrence."""
     nodes = {b"": 0}
-    for body in bodies:
-        for k in range(1, len(body) + 1):
-            nodes.setdefault(body[len(body) - k :], len(nodes))
+    for _, word in spelled(bodies):
+        for k in range(1, len(word) + 1):
+            nodes.setdefault(word[len(word) - k :], len(nodes))
     parent, label, tok, first, following = ([0] * len(nodes) for _ in range(5))
     last = {}
     for ending, v in nodes.items():
@@ -96,8 +128,8 @@ def build(bodies):
         else:
             first[up] = v
         last[up] = v
-    for i, body in enumerate(bodies):
-        tok[nodes[body]] = i + 1
+    for number, word in spelled(bodies):
+        tok[nodes[word]] = number
     return [parent, label, tok, first, following]
 
 

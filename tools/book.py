@@ -5,6 +5,7 @@
   tools/book.py merge FIRST.bin SECOND.bin OUT.bin   all tokens of the first book, then those of the second that the first lacks
   tools/book.py show BOOK.bin                        the tokens as such a list, or why the book is refused
 
+A token of 4, 7 or 10 bytes counts in both byte orders: its reverse is the same token and, if it differs, adds as many body bytes.
 '-' is standard input or output. Exit code 1: the list or a book is refused, and no file is written; 2: a file can't be used, or the words
 are wrong.
 """
@@ -17,12 +18,13 @@ sys.path.insert(0, str(pathlib.Path(__file__).resolve().parent.parent / "plain")
 import books
 import tables
 
+LIMITS = "256 tokens, or 16,384 body bytes with those of reverses"
 WHY = {
     1: "the book runs out in the record at this place, or before its closing 00h",
     2: "the kind at this place is above 44h",
     3: "there are bytes after the closing 00h",
-    4: "the token of the record at this place is an earlier one again",
-    5: "with the record at this place there are more than 256 tokens or 16,384 body bytes",
+    4: "the token of the record at this place is an earlier one again, or an earlier one of 4, 7 or 10 bytes reversed",
+    5: f"with the record at this place there are more than {LIMITS}",
     6: "there is no token in the book",
 }
 
@@ -60,8 +62,10 @@ def made(text, name):
     starts = [sum(1 + len(body) for body in bodies[:i]) for i in range(len(bodies))]
     line, body = found[starts.index(reading[2])]
     if reading[1] == 4:
-        raise Refused(f"{name}: line {line}: this token stands in line {found[bodies.index(body)][0]} already")
-    raise Refused(f"{name}: line {line}: with this token the book is over its limits, 256 tokens and 16,384 bytes of tokens")
+        earlier, again = next(one for one in found if tables.has([one[1]], body))
+        order = "" if again == body else ", reversed"
+        raise Refused(f"{name}: line {line}: this token stands in line {earlier} already{order}")
+    raise Refused(f"{name}: line {line}: with this token the book is over its limits: it has more than {LIMITS}")
 
 
 def shown(book):
@@ -84,7 +88,7 @@ def merged(first, second, names):
     elif number == 13:
         words = "{}, the second book, is refused {} {}: {}".format(names[1], *other[1:], WHY[value])
     else:
-        words = f"with the record at this place of {names[1]}, the second book, there are more than 256 tokens or 16,384 body bytes in both"
+        words = f"with the record at this place of {names[1]}, the second book, there are in both more than {LIMITS}"
     raise Refused(f"refused {number} {value}: {words}")
 
 

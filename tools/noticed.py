@@ -29,7 +29,7 @@ FACTS = (
     r"expected type `(?!tie\.)[^`]+`,?\s+but this has type `(?!tie\.)",
     r"`[^`]+`\s+≟ `[^`]+`\s+does not hold",
     r"give a proof of that as the last argument.*must be a path whose two ends are equal, and .* is none",
-    r"`omega`: the goal does not follow",
+    r"`omega`: the (goal|part `[^`]+` of the goal) does not follow",
     r"`search`: no proof of ",
 )
 

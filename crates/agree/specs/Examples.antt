@@ -1,4 +1,4 @@
--- Samples of rule 5 for one token, "axbbx".
+-- Samples of rule 5 for one word, "axbbx".
 use Prim.Native.Nat.{ℕ}
 use mathlib.Core.Path.{_≡_, refl}
 use mathlib.Core.List.{List, [], _∷_}
@@ -32,6 +32,6 @@ closing-first = refl
 closing-second : least (byteTest 1 97 axbbx) 1 9 ≡ 3
 closing-second = refl
 
--- Of two tokens the one that agrees first counts.
+-- Of two words the one that agrees first counts.
 of-two : leastOf (nodeTest (120 ∷ [])) (axbbx ∷ (120 ∷ 98 ∷ 120 ∷ []) ∷ []) 3 ≡ 2
 of-two = refl

@@ -1,2 +1,2 @@
--- The law of rule 5 token by token (Least).
+-- The law of rule 5 word by word (Least).
 pub mod Least

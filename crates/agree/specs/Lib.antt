@@ -1,4 +1,4 @@
--- Rule 5 for one token: its tests, samples, and the law that makes a search token by token enough.
+-- Rule 5 for one word: its tests, samples, and the law that makes a search word by word enough.
 pub mod Tests
 pub mod Examples
 pub mod Laws

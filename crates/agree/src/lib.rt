@@ -1,11 +1,11 @@
-// Rule 5 for one token: the smallest way to the right by which it agrees with what was read.
+// Rule 5 for one word: the smallest way to the right by which it agrees with what was read.
 ghost use Prim.Native.Nat.{_-_};
 ghost use mathlib.Core.Path.{_≡_};
 ghost use Rattle.rules.specs.Lists.{least};
 ghost use Rattle.rules.specs.Tokens.{agrees};
 ghost use Rattle.agree.specs.Tests.{nodeTest, byteTest};
 
-// The token, moved s to the right, has x where k bytes stand between that place and the old boundary, or does not reach so far.
+// The word, moved s to the right, has x where k bytes stand between that place and the old boundary, or does not reach so far.
 fn agree_at(body: &[u8], s: usize, k: usize, x: u8) -> bool
     ensures { λ r. ⌜ r ≡ agrees (now (body .entry)) s k x ⌝ }
 {
@@ -19,7 +19,7 @@ fn agree_at(body: &[u8], s: usize, k: usize, x: u8) -> bool
     body[left - 1 - s] == x
 }
 
-// The token, moved s to the right, agrees with all matched bytes.
+// The word, moved s to the right, agrees with all matched bytes.
 fn all_agree(body: &[u8], s: usize, matched: &[u8]) -> bool
     ensures { λ r. ⌜ r ≡ nodeTest (now (matched .entry)) (now (body .entry)) s ⌝ }
 {
@@ -33,7 +33,7 @@ fn all_agree(body: &[u8], s: usize, matched: &[u8]) -> bool
     true
 }
 
-// The smallest s from 1 below `best` for which the token agrees with the matched bytes; `best` where there is none, and 1 where that is 0.
+// The smallest s from 1 below `best` for which the word agrees with the matched bytes; `best` where there is none, and 1 where that is 0.
 pub fn node_least(body: &[u8], matched: &[u8], best: usize) -> usize
     ensures { λ r. ⌜ r ≡ least (nodeTest (now (matched .entry)) (now (body .entry))) 1 (best - 1) ⌝ }
 {

@@ -3,7 +3,7 @@ use Prim.Native.Nat.{ℕ}
 use mathlib.Core.Path.{_≡_}
 use mathlib.Core.List.{List}
 use lib.ListN.{length}
-use Rattle.rules.specs.Tokens.{total, shortestOf, longestOf}
+use Rattle.rules.specs.Tokens.{bodyBytes, shortestOf, longestOf}
 use Rattle.book.specs.Book.{Verdict, accepted, refused, Place, found, missing, unread}
 use Rattle.book.specs.Book as book
 use Rattle.book.specs.declared.Refusal.{Refusal}
@@ -30,7 +30,7 @@ totalled t = record { tokens = t .tokens; bodies = t .bodies; shortest = t .shor
 -- The totals are those of the tokens.
 pub record Amounts (t : Totals) (tokens : List (List ℕ)) : Type 0 where
   pub count : t .tokens ≡ length tokens
-  pub bodies : t .bodies ≡ total tokens
+  pub bodies : t .bodies ≡ bodyBytes tokens
   pub shortest : t .shortest ≡ shortestOf tokens
   pub longest : t .longest ≡ longestOf tokens
 

@@ -4,8 +4,9 @@ use mathlib.Core.Bool.{Bool, true, false, _&&_, _||_}
 use mathlib.Core.List.{List, [], _∷_, _++_}
 use lib.Dec.{leb, ltb, eqb}
 use lib.ListN.{length, getD, take, drop}
-use Rattle.rules.specs.Lists.{same, anyOf}
-use Rattle.rules.specs.Tokens.{total, shortestOf, longestOf}
+use Rattle.rules.specs.Lists.{anyOf}
+use Rattle.rules.specs.Words.{wordsOf, isWord}
+use Rattle.rules.specs.Tokens.{total, bodyBytes, shortestOf, longestOf}
 
 -- The limits of a book: tokens, body bytes, and the length of an image that is swept with it.
 abbrev pub maxTokens : ℕ
@@ -70,13 +71,13 @@ module _ (book : List ℕ) (at : ℕ) where
   abbrev pub wholeAt : ℕ
   wholeAt = elim (kindMissing || kindUnknown || bodyShort) [ true ↦ 0 | false ↦ sizeAt ]
 
-  -- Refusal 5: token 257, or body bytes over 16,384.
+  -- Refusal 5: token 257, or body bytes over 16,384, with those of all words of this body.
   abbrev pub overLimits : List (List ℕ) → Bool
-  overLimits tokens = leb maxTokens (length tokens) || ltb maxBodies (total tokens + sizeAt)
+  overLimits tokens = leb maxTokens (length tokens) || ltb maxBodies (bodyBytes tokens + total (wordsOf bodyAt))
 
-  -- Refusal 4: the body equals an earlier one.
+  -- Refusal 4: the body is a word of an earlier one: equal to it or, for a card number, its reverse.
   abbrev pub repeats : List (List ℕ) → Bool
-  repeats tokens = anyOf (same bodyAt) tokens
+  repeats tokens = anyOf (isWord bodyAt) tokens
 
   -- Refusal 3: bytes follow 00h.
   abbrev pub trailing : Bool
@@ -132,7 +133,7 @@ pub record Totals : Type 0 where
 abbrev pub totalsOf : List (List ℕ) → Totals
 totalsOf tokens = record {
   tokens = length tokens;
-  bodies = total tokens;
+  bodies = bodyBytes tokens;
   shortest = shortestOf tokens;
   longest = longestOf tokens;
 }

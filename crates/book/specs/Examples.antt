@@ -6,7 +6,7 @@ use mathlib.Core.Bool.{Bool, true, false, _&&_}
 use mathlib.Core.List.{List, [], _∷_, _++_}
 use lib.Dec.{eqb}
 use lib.ListN.{length, replicate}
-use Rattle.book.specs.Book.{Reading, accepted, refused, refusalIn, bodiesIn, readFrom, readBook}
+use Rattle.book.specs.Book.{Reading, accepted, refused, refusalIn, bodiesIn, readFrom, readBook, summary}
 use Rattle.book.specs.Bytes.{kindOf, bookOf}
 use Rattle.book.specs.Filter.{hash, isMarked, marked, Covers}
 use Rattle.book.specs.declared.Refusal.the-variants.{Unfinished, UnknownKind, Trailing, Repeat, OverLimits, NoToken}
@@ -62,16 +62,55 @@ repeat-right : allRight (row [] (1 ∷ 97 ∷ 1 ∷ 97 ∷ []) 4 2 ∷ row (lett
 unfolding row letters allRight right
 repeat-right = refl
 
+-- 4 for the reverse of an earlier body of 4, 7 or 10 bytes; one of 5 is new, and one that reads the same backwards does not repeat itself.
+turned-right : allRight (
+    row [] (4 ∷ 97 ∷ 98 ∷ 98 ∷ 120 ∷ 4 ∷ 120 ∷ 98 ∷ 98 ∷ 97 ∷ 0 ∷ []) 4 5
+    ∷ row ((1 ∷ 2 ∷ 3 ∷ 4 ∷ 5 ∷ 6 ∷ 7 ∷ []) ∷ []) (7 ∷ 7 ∷ 6 ∷ 5 ∷ 4 ∷ 3 ∷ 2 ∷ 1 ∷ []) 4 0
+    ∷ row ((0 ∷ 1 ∷ 2 ∷ 3 ∷ 4 ∷ 5 ∷ 6 ∷ 7 ∷ 8 ∷ 9 ∷ []) ∷ []) (10 ∷ 9 ∷ 8 ∷ 7 ∷ 6 ∷ 5 ∷ 4 ∷ 3 ∷ 2 ∷ 1 ∷ 0 ∷ []) 4 0
+    ∷ row ((1 ∷ 2 ∷ 3 ∷ 4 ∷ 5 ∷ []) ∷ []) (5 ∷ 5 ∷ 4 ∷ 3 ∷ 2 ∷ 1 ∷ 69 ∷ []) 2 6
+    ∷ row [] (4 ∷ 97 ∷ 98 ∷ 98 ∷ 97 ∷ 69 ∷ []) 2 5
+    ∷ []) ≡ true
+unfolding row allRight right
+turned-right = refl
+
 -- 5: token 257; 256 pass.
 tokens-right : allRight (row (letters 256) (1 ∷ 98 ∷ 0 ∷ []) 5 0 ∷ row (letters 256) (0 ∷ 7 ∷ []) 3 1 ∷ []) ≡ true
 unfolding row letters allRight right
 tokens-right = refl
+
+-- 256 counts tokens: after 255 with two words each there is room for another.
+cards-right : allRight (row (replicate 255 (97 ∷ 98 ∷ 98 ∷ 120 ∷ [])) (1 ∷ 98 ∷ 69 ∷ []) 2 2 ∷ []) ≡ true
+unfolding row allRight right
+cards-right = refl
 
 -- 5: body byte 16,385; 16,384 pass.
 bodies-right : allRight (
     row (long 16) (1 ∷ 98 ∷ 0 ∷ []) 5 0 ∷ row (replicate 1023 97 ∷ long 15) (1 ∷ 98 ∷ 69 ∷ []) 2 2 ∷ []) ≡ true
 unfolding row long allRight right
 bodies-right = refl
+
+-- 5: the reverse counts too, and one that reads the same backwards counts once; five bytes have none. 5 comes before 4 for the reverse of an
+-- earlier body too.
+both-right : allRight (
+    row (replicate 1016 97 ∷ long 15) (4 ∷ 97 ∷ 98 ∷ 98 ∷ 120 ∷ 69 ∷ []) 2 5
+    ∷ row (replicate 1017 97 ∷ long 15) (4 ∷ 97 ∷ 98 ∷ 98 ∷ 120 ∷ 69 ∷ []) 5 0
+    ∷ row (replicate 1020 97 ∷ long 15) (4 ∷ 97 ∷ 98 ∷ 98 ∷ 97 ∷ 69 ∷ []) 2 5
+    ∷ row (replicate 1021 97 ∷ long 15) (4 ∷ 97 ∷ 98 ∷ 98 ∷ 97 ∷ 69 ∷ []) 5 0
+    ∷ row (replicate 1019 97 ∷ long 15) (5 ∷ 97 ∷ 98 ∷ 98 ∷ 98 ∷ 120 ∷ 69 ∷ []) 2 6
+    ∷ row ((120 ∷ 98 ∷ 98 ∷ 97 ∷ []) ∷ replicate 1009 97 ∷ long 15) (4 ∷ 97 ∷ 98 ∷ 98 ∷ 120 ∷ 0 ∷ []) 5 0
+    ∷ []) ≡ true
+unfolding row long allRight right
+both-right = refl
+
+-- 5: so do the reverses of earlier tokens.
+earlier-right : allRight (row ((120 ∷ 98 ∷ 98 ∷ 97 ∷ []) ∷ replicate 1009 97 ∷ long 15) (4 ∷ 97 ∷ 98 ∷ 98 ∷ 121 ∷ 69 ∷ []) 5 0 ∷ []) ≡ true
+unfolding row long allRight right
+earlier-right = refl
+
+-- What a reader learns: two tokens, and the body bytes of three words.
+learnt-right : summary (readBook (1 ∷ 97 ∷ 4 ∷ 97 ∷ 98 ∷ 98 ∷ 120 ∷ 0 ∷ []))
+    ≡ accepted (record { tokens = 2; bodies = 9; shortest = 1; longest = 4 })
+learnt-right = refl
 
 -- 5 comes before 4, and 1 for a short body before 5.
 limits-first : allRight (row (letters 300) (1 ∷ 97 ∷ 0 ∷ []) 5 0 ∷ row (letters 300) (2 ∷ 97 ∷ []) 1 0 ∷ []) ≡ true
@@ -111,7 +150,7 @@ hashes-right : hash [] ∷ hash (97 ∷ []) ∷ hash (1 ∷ 2 ∷ 3 ∷ []) ∷ 
     ≡ 0 ∷ 231 ∷ 163 ∷ 163 ∷ 737 ∷ 737 ∷ []
 hashes-right = refl
 
--- Mark 64 is the first of the second word, and no other is set with it.
+-- Mark 64 is the first of the second cell, and no other is set with it.
 only-marked : (m : ℕ) → Bool
 only-marked m = isMarked (marked (replicate 16 0) 64) m
 
@@ -119,7 +158,7 @@ marks-right : only-marked 64 ∷ only-marked 0 ∷ only-marked 63 ∷ only-marke
 unfolding only-marked
 marks-right = refl
 
--- Those of its word that are set stay.
+-- Those of its cell that are set stay.
 marks-stay : marked (1 ∷ 128 ∷ 1 ∷ []) 70 ≡ 1 ∷ 192 ∷ 1 ∷ []
 marks-stay = refl
 

@@ -1,5 +1,5 @@
 -- The filter before the reader's repeat test: a mark for each body so far, at a number that is made of its length and of bytes at its ends.
--- No answer hangs on these numbers. Equal bodies have equal ones, so a body whose mark is not set is new.
+-- No answer hangs on these numbers. A body and its reverse have equal ones, so a body whose mark is not set is a word of none so far.
 use Prim.Native.Nat.{ℕ, zero, suc, _+_, _-_, _*_, _/_, _%_, _^_, min}
 use mathlib.Core.Path.{_≡_}
 use mathlib.Core.Bool.{Bool, true}
@@ -25,21 +25,21 @@ hashFrom body (suc pairs) i sum =
 abbrev pub hash : List ℕ → ℕ
 hash body = hashFrom body (min near (length body - length body / 2)) 0 (length body % marks)
 
--- The filter is a list of words of 64 marks.
+-- The filter is a list of cells of 64 marks.
 module _ (filter : List ℕ) (n : ℕ) where
-  abbrev wordAt : ℕ
-  wordAt = getD filter (n / 64) 0
+  abbrev cellAt : ℕ
+  cellAt = getD filter (n / 64) 0
 
   abbrev bit : ℕ
   bit = 2 ^ (n % 64)
 
   -- mark n is set
   abbrev pub isMarked : Bool
-  isMarked = ltb 0 (bitAnd wordAt bit)
+  isMarked = ltb 0 (bitAnd cellAt bit)
 
   -- the filter with mark n set
   abbrev pub marked : List ℕ
-  marked = set filter (n / 64) (bitOr wordAt bit)
+  marked = set filter (n / 64) (bitOr cellAt bit)
 
 -- The filter has all its marks, and that of each of these tokens is set.
 abbrev pub Covers : List ℕ → List (List ℕ) → Type 0

@@ -7,8 +7,8 @@ ghost use Rattle.book.specs.Filter.{marks, hash, isMarked, marked};
 
 const MARKS: usize = 1024;
 
-// A word holds 64 marks.
-pub const WORDS: usize = MARKS / 64;
+// A cell holds 64 marks.
+pub const CELLS: usize = MARKS / 64;
 
 // A hash is made of at most so many bytes at each end.
 const NEAR: usize = 8;
@@ -36,13 +36,13 @@ pub fn hash(body: &[u8]) -> usize
 }
 
 // Sets mark `n`, and answers whether it was set.
-pub fn mark(filter: &mut [u64; WORDS], n: usize) -> bool
+pub fn mark(filter: &mut [u64; CELLS], n: usize) -> bool
     requires { ⌜ n < marks ⌝ }
     ensures { λ r. ⌜ (r ≡ isMarked (now (filter .entry)) n) × (now (filter .exit) ≡ marked (now (filter .entry)) n) ⌝ }
 {
-    let word = n / 64;
+    let cell = n / 64;
     let bit = 1u64 << (n % 64);
-    let old = filter[word];
-    filter[word] = old | bit;
+    let old = filter[cell];
+    filter[cell] = old | bit;
     0 < old & bit
 }

@@ -3,16 +3,19 @@ mod filter;
 mod records;
 mod repeats;
 mod sums;
+pub mod words;
 
-use filter::WORDS;
+use filter::CELLS;
 use records::body_length;
-use repeats::equal;
 use repeats::repeated;
+use words::is_word;
+use words::weight;
 ghost use mathlib.Core.Path.{_≡_};
 ghost use mathlib.Core.List.{List};
 ghost use Prim.Native.Nat.{ℕ, _<_};
 ghost use lib.ListN.{length};
-ghost use Rattle.rules.specs.Lists.{anyOf, same};
+ghost use Rattle.rules.specs.Lists.{anyOf};
+ghost use Rattle.rules.specs.Words.{isWord};
 ghost use Rattle.book.specs.Book.{wholeAt, bodiesIn, closed, readBook, summary, placeIn};
 ghost use Rattle.book.specs.Answers.{Amounts, refusalOf, verdictOf, placeOf};
 
@@ -78,7 +81,7 @@ impl Refusal {
     }
 }
 
-// How many tokens there are, all body bytes, S and D.
+// How many tokens there are, all body bytes (those of all words), S and D.
 pub struct Totals {
     pub tokens: usize,
     pub bodies: usize,
@@ -117,9 +120,9 @@ pub fn body_at(book: &[u8], at: usize) -> usize
     size
 }
 
-// Whether one of the records that follow one another from the book's start has this body. The bytes are compared where they stand.
+// Whether this body is a word of one of the records that follow one another from the book's start. The bytes are compared where they stand.
 pub fn contains(book: &[u8], body: &[u8]) -> bool
-    ensures { λ r. ⌜ r ≡ anyOf (same (now (body .entry))) (bodiesIn (now (book .entry))) ⌝ }
+    ensures { λ r. ⌜ r ≡ anyOf (isWord (now (body .entry))) (bodiesIn (now (book .entry))) ⌝ }
 {
     let mut at = 0;
     loop {
@@ -129,7 +132,7 @@ pub fn contains(book: &[u8], body: &[u8]) -> bool
         }
         let start = at + 1;
         let end = start + size;
-        if equal(body, &book[start..end]) {
+        if is_word(body, &book[start..end]) {
             return true;
         }
         at = end;
@@ -142,7 +145,7 @@ pub fn read(book: &[u8]) -> Reading
 {
     let mut at = 0;
     let mut totals = Totals::none();
-    let mut filter = [0u64; WORDS];
+    let mut filter = [0u64; CELLS];
     loop {
         if book.len() <= at {
             return Reading::Refused(Refusal::Unfinished(book.len()));
@@ -158,14 +161,17 @@ pub fn read(book: &[u8]) -> Reading
         if book.len() - at - 1 < size {
             return Reading::Refused(Refusal::Unfinished(at));
         }
-        if totals.over(size) {
+        let start = at + 1;
+        let end = start + size;
+        let bytes = weight(&book[start..end]);
+        if totals.over(bytes) {
             return Reading::Refused(Refusal::OverLimits(at));
         }
         if repeated(book, at, size, &mut filter) {
             return Reading::Refused(Refusal::Repeat(at));
         }
-        totals = totals.with(size);
-        at += 1 + size;
+        totals = totals.with(size, bytes);
+        at = end;
     }
 }
 

@@ -7,6 +7,8 @@ ghost use mathlib.Core.List.{List, [], _∷_, _++_};
 ghost use Prim.Native.Nat.{ℕ, _+_, _≤_, _<_, min, max};
 ghost use lib.Dec.{leb, ltb};
 ghost use lib.ListN.{length};
+ghost use Rattle.rules.specs.Words.{wordsOf};
+ghost use Rattle.rules.specs.Tokens.{total};
 ghost use Rattle.book.specs.Book.{maxTokens, maxBodies, maxBody};
 ghost use Rattle.book.specs.Answers.{Amounts};
 
@@ -22,33 +24,35 @@ impl Totals {
         }
     }
 
-    // Whether one token more, of `size` bytes, is over a limit.
-    pub(crate) fn over(self, size: usize) -> bool
-        requires { ⌜ (self .bodies ≤ maxBodies) × (size ≤ maxBody) ⌝ }
-        ensures { λ r. ⌜ r ≡ (leb maxTokens (self .tokens) || ltb maxBodies (self .bodies + size)) ⌝ }
+    // Whether one token more, with so many bytes in its words, is over a limit.
+    pub(crate) fn over(self, bytes: usize) -> bool
+        requires { ⌜ (self .bodies ≤ maxBodies) × (bytes ≤ maxBody + maxBody) ⌝ }
+        ensures { λ r. ⌜ r ≡ (leb maxTokens (self .tokens) || ltb maxBodies (self .bodies + bytes)) ⌝ }
     {
         if Book::TOKENS <= self.tokens {
             return true;
         }
-        Book::BODIES < self.bodies + size
+        Book::BODIES < self.bodies + bytes
     }
 
-    // With one token more. The first one is both the shortest and the longest.
-    pub(crate) fn with(self, size: usize) -> Totals
-        requires { ⌜ (self .tokens < maxTokens) × (self .bodies + size ≤ maxBodies) ⌝ }
-        ensures { λ r. ⌜ ((ts : List (List ℕ)) (t : List ℕ) → Amounts self ts → size ≡ length t → Amounts r (ts ++ (t ∷ []))) ⌝ }
+    // With one token more, of `size` bytes, with so many in its words. The first one is both the shortest and the longest.
+    pub(crate) fn with(self, size: usize, bytes: usize) -> Totals
+        requires { ⌜ (self .tokens < maxTokens) × (self .bodies + bytes ≤ maxBodies) ⌝ }
+        ensures { λ r. ⌜
+            ((ts : List (List ℕ)) (t : List ℕ) → Amounts self ts → size ≡ length t → bytes ≡ total (wordsOf t) → Amounts r (ts ++ (t ∷ [])))
+            ⌝ }
     {
         if self.tokens == 0 {
             return Totals {
                 tokens: 1,
-                bodies: size,
+                bodies: bytes,
                 shortest: size,
                 longest: size,
             };
         }
         Totals {
             tokens: self.tokens + 1,
-            bodies: self.bodies + size,
+            bodies: self.bodies + bytes,
             shortest: less(self.shortest, size),
             longest: more(self.longest, size),
         }

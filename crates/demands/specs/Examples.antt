@@ -4,7 +4,7 @@ use Prim.Native.Nat.{ℕ}
 use native.Mathlib.Omega.{arith}
 use mathlib.Core.Path.{_≡_, refl}
 use mathlib.Core.Bool.{Bool, true, false, _&&_}
-use mathlib.Core.List.{List, [], _∷_, _++_}
+use mathlib.Core.List.{List, [], _∷_, _++_, List·Memᴰ·head}
 use mathlib.Core.Option.{some, none}
 use lib.Dec.{eqb}
 use lib.ListN.{getD, replicate}
@@ -19,7 +19,7 @@ use Rattle.scan.specs.Answers.{answers}
 use Rattle.demands.specs.Demand2.{swept, packetFor, fetchedFrom, sent, Lengths}
 use Rattle.merge.specs.Merge.{wrote, merge}
 use Rattle.demands.specs.Demand3.{Call, carry, give, send, Said, say, ran, expected}
-use Rattle.demands.specs.Merge.{tokenIn, named}
+use Rattle.demands.specs.Merge.{tokenIn, named, Has, Apart}
 
 -- What a row says of its book: it is accepted, and its tokens make a sample sweep; or it is refused.
 data Outcome : Type 0 where
@@ -162,3 +162,15 @@ both-named = refl
 -- A token that is not in the book has no bytes.
 none-named : tokenIn south 0 ∷ tokenIn south 3 ∷ tokenIn [] 1 ∷ [] ≡ [] ∷ [] ∷ [] ∷ []
 none-named = refl
+
+-- A card number of the second book whose reverse the first has is found as that one, and found so one time.
+abbx : List ℕ
+abbx = a ∷ b ∷ b ∷ x ∷ []
+
+turned-found : Has ((4, abbx) ∷ []) (4, x ∷ b ∷ b ∷ a ∷ [])
+unfolding abbx
+turned-found = ((4, abbx), List·Memᴰ·head refl, refl, refl)
+
+turned-one : Apart ((4, abbx) ∷ (4, x ∷ b ∷ b ∷ a ∷ []) ∷ []) → ⊥
+unfolding abbx
+turned-one p = p .0 ((4, x ∷ b ∷ b ∷ a ∷ []), List·Memᴰ·head refl, refl, refl)

@@ -1,11 +1,12 @@
--- Merging two books makes a valid book, and a sweep with it finds what the two books find together: the same bytes at the same ends. For
+-- Merging two books makes a valid book, and a sweep with it finds what the two books find together: the same tokens at the same ends. For
 -- sweeps by single bytes and of the image as a whole, in any mix.
 use Prim.Native.Nat.{ℕ, _≤_}
 use mathlib.Core.Path.{_≡_}
+use mathlib.Core.Bool.{true}
 use mathlib.Core.Logic.{_⊎_}
 use mathlib.Core.List.{List, [], _∷_, _++_, map, List·Memᴰ}
 use lib.ListN.{length, take, drop}
-use Rattle.rules.specs.Sweep.{Once}
+use Rattle.rules.specs.Words.{isWord}
 use Rattle.book.specs.Book.{found, missing, unread, accepted, maxImage, readBook, placeIn}
 use Rattle.tables.specs.Tables.{Tables, Sizes, build}
 use Rattle.scan.specs.declared.Scan.{Scan}
@@ -62,12 +63,21 @@ pub data Sweep (book image : List ℕ) (hits : List (ℕ × ℕ)) : Type 0 where
   byBytes : (lent : Tables) → ByBytes book image lent hits → Sweep book image hits
   asWhole : (lent : Tables) → AsWhole book image lent hits → Sweep book image hits
 
--- `all` has what `one` has and what `two` has, nothing else, and each one time.
+-- The hits have h: one with the same end and a token that is a word of h's, equal to it or, for a card number, its reverse.
+abbrev pub Has : List (ℕ × List ℕ) → ℕ × List ℕ → Type 0
+Has hits h = (g : ℕ × List ℕ) × List·Memᴰ g hits × (g .0 ≡ h .0) × (isWord (g .1) (h .1) ≡ true)
+
+-- no two of them are one
+abbrev pub Apart : List (ℕ × List ℕ) → Type 0
+Apart [] = Unit {0}
+Apart (h ∷ hs) = (Has hs h → ⊥) × Apart hs
+
+-- `all` has what `one` has and what `two` has, nothing else, and each one time; a card number and its reverse are one.
 pub record Union (one two all : List (ℕ × List ℕ)) : Type 0 where
   pub left : (h : ℕ × List ℕ) → List·Memᴰ h one → List·Memᴰ h all
-  pub right : (h : ℕ × List ℕ) → List·Memᴰ h two → List·Memᴰ h all
+  pub right : (h : ℕ × List ℕ) → List·Memᴰ h two → Has all h
   pub only : (h : ℕ × List ℕ) → List·Memᴰ h all → List·Memᴰ h one ⊎ List·Memᴰ h two
-  pub once : Once all
+  pub once : Apart all
 
 -- A sweep with the merged book finds what sweeps of the same image with the two books find.
 unfoldable pub UnionFor : Type 0

@@ -2,7 +2,7 @@
 use Prim.Native.Nat.{ℕ, _+_}
 use mathlib.Core.Bool.{true, false}
 use mathlib.Core.List.{List}
-use Rattle.rules.specs.Tokens.{total}
+use Rattle.rules.specs.Tokens.{bodyBytes}
 use Rattle.book.specs.Book.{Verdict, accepted, refused, readBook, maxImage}
 use Rattle.book.specs.Answers.{refusalOf}
 use Rattle.tables.specs.Tables.{Tables, tooShort}
@@ -30,5 +30,5 @@ abbrev pub refusalFor : List ℕ → Tables → Verdict ℕ
 refusalFor book t =
     elim (readBook book) [
       | refused k v ↦ refused k v
-      | accepted tokens ↦ elim (tooShort t tokens) [ true ↦ refused 7 (1 + total tokens) | false ↦ refused 8 maxImage ]
+      | accepted tokens ↦ elim (tooShort t tokens) [ true ↦ refused 7 (1 + bodyBytes tokens) | false ↦ refused 8 maxImage ]
     ]

@@ -6,6 +6,7 @@ use mathlib.Core.List.{List, [], _∷_}
 use mathlib.Core.Option.{Option, some, none}
 use lib.ListN.{length, getD}
 use Rattle.rules.specs.Lists.{anyOf}
+use Rattle.rules.specs.Words.{allWords}
 use Rattle.rules.specs.Tokens.{ends, nodeShift, byteShift, shiftOf, shortestOf}
 use Rattle.book.specs.Book.{Reading, accepted, refused, readBook}
 use Rattle.tables.specs.Tables.{nodes}
@@ -20,6 +21,10 @@ tokensIn (refused k v) = []
 abbrev pub tokensOf : List ℕ → List (List ℕ)
 tokensOf book = tokensIn (readBook book)
 
+-- and their words
+abbrev pub wordsIn : List ℕ → List (List ℕ)
+wordsIn book = allWords (tokensOf book)
+
 -- A book that is accepted, with its S.
 pub record Accepted (book : List ℕ) (shortest : ℕ) : Type 0 where
   pub read : readBook book ≡ accepted (tokensOf book)
@@ -32,7 +37,7 @@ closingOf Nothing = none
 
 -- the ending of node v
 abbrev pub nameOf : List ℕ → ℕ → List ℕ
-nameOf book v = getD (nodes (tokensOf book)) v []
+nameOf book v = getD (nodes (wordsIn book)) v []
 
 -- an entry is 0 or right
 abbrev pub Right : ℕ → ℕ → Type 0
@@ -40,15 +45,15 @@ Right entry right = (entry ≡ 0 → ⊥) → entry ≡ right
 
 -- The node shift by node.
 pub record ByNode (book : List ℕ) (shortest : ℕ) (cache : List ℕ) : Type 0 where
-  pub right : (v : ℕ) → Right (getD cache v 0) (nodeShift (tokensOf book) shortest (nameOf book v))
+  pub right : (v : ℕ) → Right (getD cache v 0) (nodeShift (wordsIn book) shortest (nameOf book v))
 
 -- The byte shift by byte and by depths below 64.
 pub record ByByte (book : List ℕ) (shortest : ℕ) (cache : List ℕ) : Type 0 where
   pub size : length cache ≡ 256 * 64
-  pub right : (d x : ℕ) → d < 64 → x < 256 → Right (getD cache (256 * d + x) 0) (byteShift (tokensOf book) shortest d (some x))
+  pub right : (d x : ℕ) → d < 64 → x < 256 → Right (getD cache (256 * d + x) 0) (byteShift (wordsIn book) shortest d (some x))
 
 -- The shift of a round that ends at its first byte, by that byte, if the root has no child for it.
 pub record BySkip (book : List ℕ) (shortest : ℕ) (cache : List ℕ) : Type 0 where
   pub size : length cache ≡ 256
   pub right : (x : ℕ) → x < 256 → (getD cache x 0 ≡ 0 → ⊥)
-      → (anyOf (ends (x ∷ [])) (tokensOf book) ≡ false) × (getD cache x 0 ≡ shiftOf (tokensOf book) shortest [] (some x))
+      → (anyOf (ends (x ∷ [])) (wordsIn book) ≡ false) × (getD cache x 0 ≡ shiftOf (wordsIn book) shortest [] (some x))

@@ -20,7 +20,7 @@ use Rattle.image.specs.declared.walk.Stop.the-variants.{Byte, Nothing}
 use Rattle.whole.specs.Image.{hitsOf, fetchesOf}
 use Rattle.image.specs.Rounds.{Reached, reached, met, lowest}
 use Rattle.image.specs.Spans.{placesOf, inUse}
-use Rattle.image.specs.Rule5.{tokensOf, Accepted, closingOf, ByNode, ByByte, BySkip}
+use Rattle.image.specs.Rule5.{tokensOf, wordsIn, Accepted, closingOf, ByNode, ByByte, BySkip}
 use Rattle.image.specs.Laws.Round.{Starts, fetchesFrom, hitsFrom}
 
 -- An accepted book, tables that represent its tokens, and an image within its limit.
@@ -71,8 +71,8 @@ lowestOf b depth (Byte x) = b - 1 - depth
 
 -- If the round ended at its first byte, the root has no child for it, and the shift is that byte's.
 pub record Learns (book : List ℕ) (shortest depth : ℕ) (stop : Stop) (by : ℕ) : Type 0 where
-  pub none : (x : ℕ) → depth ≡ 0 → closingOf stop ≡ some x → anyOf (ends (x ∷ [])) (tokensOf book) ≡ false
-  pub right : (x : ℕ) → depth ≡ 0 → closingOf stop ≡ some x → by ≡ shiftOf (tokensOf book) shortest [] (some x)
+  pub none : (x : ℕ) → depth ≡ 0 → closingOf stop ≡ some x → anyOf (ends (x ∷ [])) (wordsIn book) ≡ false
+  pub right : (x : ℕ) → depth ≡ 0 → closingOf stop ≡ some x → by ≡ shiftOf (wordsIn book) shortest [] (some x)
 
 module _ (book image : List ℕ) where
   -- where a round at boundary b ends
@@ -84,7 +84,7 @@ module _ (book image : List ℕ) where
   metAt b = met (ofTokens (tokensOf book) (shortestOf (tokensOf book))) image b
 
   abbrev pub shiftAt : ℕ → ℕ
-  shiftAt b = shiftOf (tokensOf book) (shortestOf (tokensOf book)) (endAt b .node) (endAt b .closing)
+  shiftAt b = shiftOf (wordsIn book) (shortestOf (tokensOf book)) (endAt b .node) (endAt b .closing)
 
   -- A round was seen that ended at its second byte y, left of x, met no token and shifted by so much.
   pub record Seen (y x by : ℕ) : Type 0 where

@@ -4,7 +4,7 @@ ghost use mathlib.Core.Path.{_≡_};
 ghost use mathlib.Core.Option.{some};
 ghost use lib.ListN.{length};
 ghost use Rattle.rules.specs.Tokens.{nodeShift, byteShift, shiftOf};
-ghost use Rattle.image.specs.Rule5.{tokensOf, Accepted, closingOf, nameOf, ByNode, ByByte};
+ghost use Rattle.image.specs.Rule5.{wordsIn, Accepted, closingOf, nameOf, ByNode, ByByte};
 use crate::rule5;
 use crate::walk::Stop;
 use trie::entries::wide;
@@ -23,7 +23,7 @@ fn node_shift(book: &[u8], matched: &[u8], node: usize, shortest: usize, cache: 
     requires book { ⌜ Accepted (now book) shortest ⌝ }
     requires node { ⌜ (node < length (now cache)) × (now matched ≡ nameOf (now book) node) ⌝ }
     requires right { ⌜ ByNode (now book) shortest (now cache) ⌝ }
-    ensures shift { λ r. ⌜ r ≡ nodeShift (tokensOf (now (book .entry))) shortest (now (matched .entry)) ⌝ }
+    ensures shift { λ r. ⌜ r ≡ nodeShift (wordsIn (now (book .entry))) shortest (now (matched .entry)) ⌝ }
     ensures right { λ r. ⌜ ByNode (now (book .entry)) shortest (now (cache .exit)) ⌝ }
     ensures size { λ r. ⌜ length (now (cache .exit)) ≡ length (now (cache .entry)) ⌝ }
 {
@@ -40,7 +40,7 @@ fn node_shift(book: &[u8], matched: &[u8], node: usize, shortest: usize, cache: 
 fn byte_shift(book: &[u8], depth: usize, byte: u8, shortest: usize, cache: &mut [u16]) -> usize
     requires book { ⌜ Accepted (now book) shortest ⌝ }
     requires right { ⌜ ByByte (now book) shortest (now cache) ⌝ }
-    ensures shift { λ r. ⌜ r ≡ byteShift (tokensOf (now (book .entry))) shortest depth (some byte) ⌝ }
+    ensures shift { λ r. ⌜ r ≡ byteShift (wordsIn (now (book .entry))) shortest depth (some byte) ⌝ }
     ensures right { λ r. ⌜ ByByte (now (book .entry)) shortest (now (cache .exit)) ⌝ }
 {
     if DEPTHS <= depth {
@@ -69,7 +69,7 @@ pub fn shift(
     requires book { ⌜ Accepted (now book) shortest ⌝ }
     requires node { ⌜ (node < length (now nodes)) × (now matched ≡ nameOf (now book) node) ⌝ }
     requires right { ⌜ ByNode (now book) shortest (now nodes) × ByByte (now book) shortest (now bytes) ⌝ }
-    ensures shift { λ r. ⌜ r ≡ shiftOf (tokensOf (now (book .entry))) shortest (now (matched .entry)) (closingOf stop) ⌝ }
+    ensures shift { λ r. ⌜ r ≡ shiftOf (wordsIn (now (book .entry))) shortest (now (matched .entry)) (closingOf stop) ⌝ }
     ensures right { λ r. ⌜ ByNode (now (book .entry)) shortest (now (nodes .exit)) × ByByte (now (book .entry)) shortest (now (bytes .exit)) ⌝ }
     ensures size { λ r. ⌜ length (now (nodes .exit)) ≡ length (now (nodes .entry)) ⌝ }
 {

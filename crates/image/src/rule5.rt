@@ -1,22 +1,72 @@
 // Rule 5 straight from the records of the book.
+ghost use Prim.Native.Nat.{_≤_};
 ghost use mathlib.Core.Path.{_≡_};
+ghost use mathlib.Core.List.{reverse};
 ghost use mathlib.Core.Option.{some};
+ghost use lib.ListN.{length};
+ghost use Rattle.rules.specs.Lists.{over};
+ghost use Rattle.rules.specs.Words.{wordsOf};
 ghost use Rattle.rules.specs.Tokens.{nodeShift, byteShift};
-ghost use Rattle.image.specs.Rule5.{tokensOf, Accepted};
+ghost use Rattle.agree.specs.Tests.{nodeTest, byteTest, leastOf};
+ghost use Rattle.image.specs.Rule5.{wordsIn, Accepted};
 use agree::byte_least;
 use agree::node_least;
+use book::words::has_reverse;
 
-// The node shift of the matched bytes, token by token: each is searched below the best so far. The book ends with 00h.
+// The longest card number.
+const CARD: usize = 10;
+
+// Writes the body's bytes in reverse from the front on.
+fn reverse_into(body: &[u8], into: &mut [u8; CARD])
+    requires { ⌜ (length (now body) ≤ 10) × (length (now into) ≡ 10) ⌝ }
+    ensures { λ r. ⌜ now (into .exit) ≡ over (reverse (now (body .entry))) (now (into .entry)) ⌝ }
+{
+    let mut i = 0;
+    while i < body.len() {
+        into[i] = body[body.len() - 1 - i];
+        i += 1;
+    }
+}
+
+// The smallest s from 1 below `best` for which a word of the body agrees with the matched bytes, or `best`.
+fn node_words(body: &[u8], matched: &[u8], best: usize) -> usize
+    requires { ⌜ 1 ≤ best ⌝ }
+    ensures { λ r. ⌜ r ≡ leastOf (nodeTest (now (matched .entry))) (wordsOf (now (body .entry))) best ⌝ }
+{
+    let own = node_least(body, matched, best);
+    if !has_reverse(body) {
+        return own;
+    }
+    let mut word = [0u8; CARD];
+    reverse_into(body, &mut word);
+    node_least(&word[..body.len()], matched, own)
+}
+
+// The same for the byte x left of `depth` matched ones alone.
+fn byte_words(body: &[u8], depth: usize, x: u8, best: usize) -> usize
+    requires { ⌜ 1 ≤ best ⌝ }
+    ensures { λ r. ⌜ r ≡ leastOf (byteTest depth x) (wordsOf (now (body .entry))) best ⌝ }
+{
+    let own = byte_least(body, depth, x, best);
+    if !has_reverse(body) {
+        return own;
+    }
+    let mut word = [0u8; CARD];
+    reverse_into(body, &mut word);
+    byte_least(&word[..body.len()], depth, x, own)
+}
+
+// The node shift of the matched bytes, token by token: the words of each are searched below the best so far. The book ends with 00h.
 pub fn node_shift(book: &[u8], matched: &[u8], shortest: usize) -> usize
     requires { ⌜ Accepted (now book) shortest ⌝ }
-    ensures { λ r. ⌜ r ≡ nodeShift (tokensOf (now (book .entry))) shortest (now (matched .entry)) ⌝ }
+    ensures { λ r. ⌜ r ≡ nodeShift (wordsIn (now (book .entry))) shortest (now (matched .entry)) ⌝ }
 {
     let mut best = shortest;
     let mut at = 0;
     while at + 1 < book.len() {
         let start = at + 1;
         let end = start + book::body_at(book, at);
-        best = node_least(&book[start..end], matched, best);
+        best = node_words(&book[start..end], matched, best);
         at = end;
     }
     best
@@ -25,14 +75,14 @@ pub fn node_shift(book: &[u8], matched: &[u8], shortest: usize) -> usize
 // The byte shift of the byte x left of `depth` matched ones.
 pub fn byte_shift(book: &[u8], depth: usize, x: u8, shortest: usize) -> usize
     requires { ⌜ Accepted (now book) shortest ⌝ }
-    ensures { λ r. ⌜ r ≡ byteShift (tokensOf (now (book .entry))) shortest depth (some x) ⌝ }
+    ensures { λ r. ⌜ r ≡ byteShift (wordsIn (now (book .entry))) shortest depth (some x) ⌝ }
 {
     let mut best = shortest;
     let mut at = 0;
     while at + 1 < book.len() {
         let start = at + 1;
         let end = start + book::body_at(book, at);
-        best = byte_least(&book[start..end], depth, x, best);
+        best = byte_words(&book[start..end], depth, x, best);
         at = end;
     }
     best

@@ -40,6 +40,27 @@ turned = refl
 nothing-new : merge north north (sevens 7) ≡ record { answer = wrote 6; out = north ++ sevens 1 }
 nothing-new = refl
 
+-- "abcd", and its reverse
+abbrev card : List ℕ
+card = 97 ∷ 98 ∷ 99 ∷ 100 ∷ []
+
+abbrev back : List ℕ
+back = 100 ∷ 99 ∷ 98 ∷ 97 ∷ []
+
+-- A card number whose reverse the first book has is passed over.
+reverse-passed : merge (4 ∷ card ++ (0 ∷ [])) (4 ∷ back ++ (0 ∷ [])) (sevens 6) ≡ record { answer = wrote 6; out = 4 ∷ card ++ (0 ∷ []) }
+reverse-passed = refl
+
+-- Five bytes and their reverse are two tokens.
+five-stay : merge (5 ∷ 101 ∷ card ++ (0 ∷ [])) (5 ∷ back ++ (101 ∷ 0 ∷ [])) (sevens 13)
+    ≡ record { answer = wrote 13; out = 5 ∷ 101 ∷ card ++ (5 ∷ back ++ (101 ∷ 0 ∷ [])) }
+five-stay = refl
+
+-- The length is that of the bytes written, and a reverse is not written.
+own-written : merge north (4 ∷ card ++ (0 ∷ [])) (sevens 11)
+    ≡ record { answer = wrote 11; out = 1 ∷ 98 ∷ 2 ∷ 97 ∷ 97 ∷ 4 ∷ card ++ (0 ∷ []) }
+own-written = refl
+
 -- 14, with the closing 00h.
 too-short : merge north south (sevens 9) ≡ refuses (noRoom 10) (sevens 9)
 too-short = refl
@@ -62,13 +83,13 @@ second-empty = refl
 second-any : (second out : List ℕ) (k v : ℕ) → readBook second ≡ refused k v → merge north second out ≡ refuses (secondBad k) out
 second-any second out k v e = cc e
 
--- `k` tokens "a", which serve as any others do, as the first book's tokens are not compared with one another; and tokens of 16,383 bytes
+-- `k` tokens "a", which serve as any others do, as the first book's tokens are not compared with one another; and tokens of 16,320 + k bytes
 abbrev letters : ℕ → List (List ℕ)
 letters k = replicate k (97 ∷ [])
 
-abbrev long : List (List ℕ)
-long =
-    replicate 512 97 ∷ replicate 256 97 ∷ replicate 128 97 ∷ replicate 64 97 ∷ replicate 63 97 ∷ replicate 15 (replicate 1024 97)
+abbrev long : ℕ → List (List ℕ)
+long k =
+    replicate 512 97 ∷ replicate 256 97 ∷ replicate 128 97 ∷ replicate 64 97 ∷ replicate k 97 ∷ replicate 15 (replicate 1024 97)
 
 -- "aa", which the first book has, and "b", "cc", "d", which it lacks
 abbrev more : List (List ℕ)
@@ -86,12 +107,30 @@ tokens-later = refl
 tokens-pass : join ((97 ∷ 97 ∷ []) ∷ letters 252) more [] ≡ refuses (noRoom 515) []
 tokens-pass = refl
 
+-- 256 counts tokens: 255 with two words each leave room for another.
+cards-pass : join (replicate 255 card) ((98 ∷ []) ∷ []) (sevens 1278) .answer ≡ wrote 1278
+cards-pass = refl
+
 -- 5: body byte 16,385, though a shorter body behind it would fit; 16,384 pass.
-bodies-over : join long ((98 ∷ 98 ∷ []) ∷ (99 ∷ []) ∷ []) (sevens 3) ≡ refuses (limitsPassed 0) (sevens 3)
+bodies-over : join (long 63) ((98 ∷ 98 ∷ []) ∷ (99 ∷ []) ∷ []) (sevens 3) ≡ refuses (limitsPassed 0) (sevens 3)
 bodies-over = refl
 
-bodies-pass : join long ((98 ∷ []) ∷ []) (sevens 3) ≡ refuses (noRoom 16406) (sevens 3)
+bodies-pass : join (long 63) ((98 ∷ []) ∷ []) (sevens 3) ≡ refuses (noRoom 16406) (sevens 3)
 bodies-pass = refl
+
+-- 5: both words of a card number count, to body byte 16,385; 16,384 pass, and the length wanted has its own bytes alone.
+words-over : join (long 57) (card ∷ []) (sevens 3) ≡ refuses (limitsPassed 0) (sevens 3)
+words-over = refl
+
+words-pass : join (long 56) (card ∷ []) (sevens 3) ≡ refuses (noRoom 16402) (sevens 3)
+words-pass = refl
+
+-- A reverse is passed over before 5 is asked: 256 tokens, or 16,384 body bytes, are reached, and the token behind it is over them.
+tokens-reached : join (card ∷ letters 255) (back ∷ (98 ∷ []) ∷ []) [] ≡ refuses (limitsPassed 5) []
+tokens-reached = refl
+
+bodies-reached : join (card ∷ long 56) (back ∷ (98 ∷ []) ∷ []) [] ≡ refuses (limitsPassed 5) []
+bodies-reached = refl
 
 -- Each answer has its number and value, and each case of the enum its answer.
 numbers-told : map verdict (wrote 9 ∷ firstBad 4 9 ∷ secondBad 4 ∷ limitsPassed 9 ∷ noRoom 9 ∷ [])

@@ -4,14 +4,15 @@ use mathlib.Core.Bool.{Bool, true, false, _||_, not}
 use mathlib.Core.List.{List, _++_}
 use lib.Dec.{ltb}
 use lib.ListN.{length, take}
-use Rattle.rules.specs.Lists.{select, anyOf, least, same, over}
-use Rattle.rules.specs.Tokens.{total}
+use Rattle.rules.specs.Lists.{select, anyOf, least, over}
+use Rattle.rules.specs.Words.{isWord}
+use Rattle.rules.specs.Tokens.{bodyBytes}
 use Rattle.book.specs.Book.{Verdict, accepted, refused, maxTokens, maxBodies, readBook, recordPlace}
 use Rattle.book.specs.Bytes.{bookOf}
 
--- The tokens lack t.
+-- The tokens lack t: it is a word of none of them.
 abbrev pub lacks : List (List ℕ) → List ℕ → Bool
-lacks tokens t = not (anyOf (same t) tokens)
+lacks tokens t = not (anyOf (isWord t) tokens)
 
 -- All tokens of the first book, then those of the second that the first lacks, each in its own order.
 abbrev pub merged : List (List ℕ) → List (List ℕ) → List (List ℕ)
@@ -19,7 +20,7 @@ merged tokens others = tokens ++ select (lacks tokens) others
 
 -- The tokens are over the limits of a book: more than 256, or more than 16,384 body bytes.
 abbrev pub tooLarge : List (List ℕ) → Bool
-tooLarge tokens = ltb maxTokens (length tokens) || ltb maxBodies (total tokens)
+tooLarge tokens = ltb maxTokens (length tokens) || ltb maxBodies (bodyBytes tokens)
 
 -- How many tokens of the second book come before the first one with which the merged book is over its limits; all, if none is.
 abbrev pub fitting : List (List ℕ) → List (List ℕ) → ℕ

@@ -4,7 +4,7 @@ use mathlib.Core.Path.{_≡_}
 use mathlib.Core.Bool.{Bool, true, false}
 use mathlib.Core.List.{List, [], _++_}
 use lib.ListN.{length, getD, take, drop}
-use Rattle.rules.specs.Tokens.{total}
+use Rattle.rules.specs.Tokens.{bodyBytes}
 use Rattle.book.specs.Book.{recordPlace, bodiesIn}
 use Rattle.book.specs.Bytes.{bookOf}
 use Rattle.book.specs.declared.Totals.{Totals}
@@ -16,7 +16,7 @@ use Rattle.merge.specs.declared.survey.Fit.the-variants.{Over, Needs}
 pub record Books (first second : List ℕ) (totals : Totals) : Type 0 where
   pub made : first ≡ bookOf (bodiesIn first)
   pub count : totals .tokens ≡ length (bodiesIn first)
-  pub bodies : totals .bodies ≡ total (bodiesIn first)
+  pub bodies : totals .bodies ≡ bodyBytes (bodiesIn first)
   pub first-fits : tooLarge (bodiesIn first) ≡ false
   pub second-fits : tooLarge (bodiesIn second) ≡ false
 

@@ -1,6 +1,7 @@
 // Which tokens of the second book the first lacks, and whether they fit.
 use book::Book;
 use book::Totals;
+use book::words::weight;
 ghost use mathlib.Core.Path.{_≡_};
 ghost use mathlib.Core.Bool.{_||_};
 ghost use lib.Dec.{ltb};
@@ -27,6 +28,7 @@ pub fn survey(first: &[u8], totals: Totals, second: &[u8]) -> Marked
     let mut marks = [false; Book::TOKENS];
     let mut tokens = totals.tokens;
     let mut bodies = totals.bodies;
+    let mut length = first.len();
     let mut at = 0;
     let mut i = 0;
     loop {
@@ -34,15 +36,17 @@ pub fn survey(first: &[u8], totals: Totals, second: &[u8]) -> Marked
         if size == 0 {
             return Marked {
                 marks,
-                fit: Fit::Needs(tokens + bodies + 1),
+                fit: Fit::Needs(length),
             };
         }
         let start = at + 1;
         let end = start + size;
-        let new = !book::contains(first, &second[start..end]);
+        let body = &second[start..end];
+        let new = !book::contains(first, body);
         if new {
             tokens += 1;
-            bodies += size;
+            bodies += weight(body);
+            length += 1 + size;
         }
         if too_large(tokens, bodies) {
             return Marked {

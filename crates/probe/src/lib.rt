@@ -4,7 +4,8 @@ mod states;
 
 ghost use mathlib.Core.Path.{_≡_};
 ghost use mathlib.Core.List.{[]};
-ghost use Rattle.rules.specs.Lists.{anyOf, same};
+ghost use Rattle.rules.specs.Lists.{anyOf};
+ghost use Rattle.rules.specs.Words.{isWord};
 ghost use Rattle.book.specs.Book.{readBook, summary, placeIn, wholeAt, bodiesIn};
 ghost use Rattle.merge.specs.Merge.{merge};
 ghost use Rattle.tables.specs.Tables.{build};
@@ -50,7 +51,7 @@ pub extern "C" fn probe_body_at(book: &[u8], at: usize) -> usize
 
 #[no_mangle]
 pub extern "C" fn probe_contains(book: &[u8], body: &[u8]) -> Told
-    ensures { λ r. ⌜ r ≡ containsOf (anyOf (same (now (body .entry))) (bodiesIn (now (book .entry)))) ⌝ }
+    ensures { λ r. ⌜ r ≡ containsOf (anyOf (isWord (now (body .entry))) (bodiesIn (now (book .entry)))) ⌝ }
 {
     answers::contains(book::contains(book, body))
 }

@@ -1,15 +1,16 @@
--- Sample sweeps by the rules over tokens, as one table: P1 to P5 of document 01, and three that pin rule 4 and the byte taken from
--- a stretch. Each row says the hits, the places fetched, and the limit on them; and each sweep ends with done. And all events of
--- one more.
+-- Sample sweeps by the rules over tokens, as one table: P1 to P5 of document 01, three that pin rule 4 and the byte taken from a stretch,
+-- and four of card numbers. Each row says the hits, the places fetched, and the limit on them; and each sweep ends with done. Then all
+-- events of one more, and the words of tokens.
 use Prim.Native.Nat.{ℕ}
 use mathlib.Core.Path.{_≡_, refl}
 use mathlib.Core.Bool.{Bool, true, false, _&&_}
-use mathlib.Core.List.{List, [], _∷_}
+use mathlib.Core.List.{List, [], _∷_, map}
 use lib.Dec.{eqb}
 use lib.ListN.{length, replicate}
 use Rattle.rules.specs.Lists.{same}
 use Rattle.rules.specs.Rules.{Event, fetched, recalled, hit, shifted, done, trace}
-use Rattle.rules.specs.Tokens.{longestOf}
+use Rattle.rules.specs.Words.{isCard, isWord, numberOf, allWords}
+use Rattle.rules.specs.Tokens.{bodyBytes, longestOf}
 use Rattle.rules.specs.Sweep.{happens, bytesOf, places, hits, limit}
 
 pub record Sample : Type 0 where
@@ -90,9 +91,49 @@ abbrev pub recalledRight : Sample
 recalledRight = record {
   tokens = (b ∷ a ∷ b ∷ a ∷ []) ∷ (b ∷ a ∷ b ∷ a ∷ b ∷ []) ∷ [];
   image = b ∷ b ∷ a ∷ b ∷ a ∷ b ∷ a ∷ a ∷ [];
-  found = (5, 1) ∷ (6, 2) ∷ (7, 1) ∷ [];
+  found = (5, 1) ∷ (6, 2) ∷ (6, 1) ∷ (7, 1) ∷ [];
   fetches = 3 ∷ 2 ∷ 1 ∷ 0 ∷ 4 ∷ 3 ∷ 2 ∷ 1 ∷ 5 ∷ 6 ∷ 7 ∷ 6 ∷ [];
   most = 82;
+}
+
+-- A card number stands there in both orders, its reverse as an ending of the other token too.
+abbrev pub turned : Sample
+turned = record {
+  tokens = (b ∷ x ∷ c ∷ b ∷ a ∷ []) ∷ (a ∷ b ∷ c ∷ x ∷ []) ∷ [];
+  image = a ∷ b ∷ x ∷ c ∷ b ∷ a ∷ b ∷ c ∷ x ∷ a ∷ x ∷ c ∷ b ∷ a ∷ [];
+  found = (6, 1) ∷ (6, 2) ∷ (9, 2) ∷ (14, 2) ∷ [];
+  fetches = 3 ∷ 4 ∷ 5 ∷ 4 ∷ 3 ∷ 2 ∷ 1 ∷ 8 ∷ 7 ∷ 6 ∷ 5 ∷ 11 ∷ 12 ∷ 13 ∷ 12 ∷ 11 ∷ 10 ∷ 9 ∷ [];
+  most = 136;
+}
+
+-- One that reads the same backwards gives one hit an end.
+abbrev pub palindrome : Sample
+palindrome = record {
+  tokens = (a ∷ b ∷ c ∷ x ∷ c ∷ b ∷ a ∷ []) ∷ [];
+  image = a ∷ b ∷ c ∷ x ∷ c ∷ b ∷ a ∷ b ∷ c ∷ x ∷ c ∷ b ∷ a ∷ [];
+  found = (7, 1) ∷ (13, 1) ∷ [];
+  fetches = 6 ∷ 5 ∷ 4 ∷ 3 ∷ 2 ∷ 1 ∷ 0 ∷ 12 ∷ 11 ∷ 10 ∷ 9 ∷ 8 ∷ 7 ∷ 6 ∷ [];
+  most = 131;
+}
+
+-- Rule 5's node shift takes the reverse of ten bytes for a word; five bytes have none.
+abbrev pub ten : Sample
+ten = record {
+  tokens = (a ∷ a ∷ b ∷ b ∷ c ∷ c ∷ a ∷ b ∷ c ∷ x ∷ []) ∷ (a ∷ b ∷ b ∷ b ∷ x ∷ []) ∷ [];
+  image = x ∷ b ∷ b ∷ b ∷ a ∷ x ∷ c ∷ b ∷ a ∷ c ∷ c ∷ b ∷ b ∷ a ∷ a ∷ [];
+  found = (15, 1) ∷ [];
+  fetches = 4 ∷ 3 ∷ 5 ∷ 4 ∷ 10 ∷ 11 ∷ 12 ∷ 13 ∷ 12 ∷ 14 ∷ 13 ∷ 12 ∷ 11 ∷ 10 ∷ 9 ∷ 8 ∷ 7 ∷ 6 ∷ 5 ∷ [];
+  most = 155;
+}
+
+-- Its byte shift takes that of four for one.
+abbrev pub four : Sample
+four = record {
+  tokens = (x ∷ a ∷ b ∷ c ∷ []) ∷ [];
+  image = c ∷ c ∷ b ∷ a ∷ x ∷ [];
+  found = (5, 1) ∷ [];
+  fetches = 3 ∷ 4 ∷ 3 ∷ 2 ∷ 1 ∷ [];
+  most = 53;
 }
 
 -- the same hits in the same order
@@ -123,7 +164,7 @@ allRight : List Sample → Bool
 allRight [] = true
 allRight (s ∷ ss) = right s && allRight ss
 
-samples-right : allRight (p1 ∷ p2 ∷ p3 ∷ p4 ∷ p5 ∷ inside ∷ recalledLeft ∷ recalledRight ∷ []) ≡ true
+samples-right : allRight (p1 ∷ p2 ∷ p3 ∷ p4 ∷ p5 ∷ inside ∷ recalledLeft ∷ recalledRight ∷ turned ∷ palindrome ∷ ten ∷ four ∷ []) ≡ true
 unfolding allRight happens trace
 samples-right = refl
 
@@ -132,3 +173,28 @@ events-right : happens ((a ∷ []) ∷ (a ∷ a ∷ []) ∷ []) 2 (bytesOf (a �
     ≡ fetched 0 ∷ hit 1 1 ∷ shifted 2 [] ∷ fetched 1 ∷ fetched 0 ∷ hit 2 2 ∷ hit 2 1 ∷ shifted 3 [] ∷ done ∷ []
 unfolding happens trace
 events-right = refl
+
+-- Words: of card numbers both orders, each after its token's own; of one that reads the same backwards, and of other lengths, the bytes alone.
+words-right : allWords ((a ∷ b ∷ b ∷ x ∷ []) ∷ (a ∷ b ∷ c ∷ x ∷ c ∷ b ∷ a ∷ []) ∷ (a ∷ a ∷ a ∷ a ∷ b ∷ []) ∷ [])
+    ≡ (a ∷ b ∷ b ∷ x ∷ []) ∷ (x ∷ b ∷ b ∷ a ∷ []) ∷ (a ∷ b ∷ c ∷ x ∷ c ∷ b ∷ a ∷ []) ∷ (a ∷ a ∷ a ∷ a ∷ b ∷ []) ∷ []
+words-right = refl
+
+-- Which bytes are words of a token: its own, and its reverse at 4, 7 and 10 bytes alone.
+are-words : isWord (a ∷ b ∷ []) (a ∷ b ∷ []) ∷ isWord (b ∷ a ∷ []) (a ∷ b ∷ []) ∷ isWord (x ∷ b ∷ b ∷ a ∷ []) (a ∷ b ∷ b ∷ x ∷ [])
+    ∷ isWord (x ∷ b ∷ b ∷ b ∷ a ∷ []) (a ∷ b ∷ b ∷ b ∷ x ∷ []) ∷ isWord (b ∷ b ∷ x ∷ a ∷ []) (a ∷ b ∷ b ∷ x ∷ []) ∷ []
+    ≡ true ∷ false ∷ true ∷ false ∷ false ∷ []
+are-words = refl
+
+-- The lengths of card numbers, among those from 1 to 12.
+cards-right : map isCard (1 ∷ 2 ∷ 3 ∷ 4 ∷ 5 ∷ 6 ∷ 7 ∷ 8 ∷ 9 ∷ 10 ∷ 11 ∷ 12 ∷ [])
+    ≡ false ∷ false ∷ false ∷ true ∷ false ∷ false ∷ true ∷ false ∷ false ∷ true ∷ false ∷ false ∷ []
+cards-right = refl
+
+-- Their bytes count twice, those of one that reads the same backwards once.
+bodies-right : bodyBytes ((a ∷ b ∷ b ∷ x ∷ []) ∷ (a ∷ b ∷ c ∷ x ∷ c ∷ b ∷ a ∷ []) ∷ (a ∷ a ∷ a ∷ a ∷ b ∷ []) ∷ []) ≡ 20
+bodies-right = refl
+
+-- The number of the token that the bytes are a word of: in either order it is the same.
+numbers-right : map (numberOf ((a ∷ b ∷ b ∷ x ∷ []) ∷ (a ∷ []) ∷ []))
+    ((a ∷ b ∷ b ∷ x ∷ []) ∷ (x ∷ b ∷ b ∷ a ∷ []) ∷ (a ∷ []) ∷ (b ∷ x ∷ []) ∷ []) ≡ 1 ∷ 1 ∷ 2 ∷ 0 ∷ []
+numbers-right = refl

@@ -7,6 +7,7 @@ pub mod Members
 pub mod Over
 pub mod Lengths
 pub mod Endings
+pub mod Words
 pub mod Digits
 pub mod Hits
 pub mod Limit

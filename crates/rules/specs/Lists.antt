@@ -32,10 +32,10 @@ same [] (y ∷ ys) = false
 same (x ∷ xs) [] = false
 same (x ∷ xs) (y ∷ ys) = eqb x y && same xs ys
 
--- the number of the first that is `u`, counted from i, or 0
-abbrev pub numberFrom : ℕ → List ℕ → List (List ℕ) → ℕ
-numberFrom i u [] = 0
-numberFrom i u (t ∷ ts) = elim (same u t) [ true ↦ i | false ↦ numberFrom (i + 1) u ts ]
+-- the number of the first that passes, counted from i, or 0
+abbrev pub numberWhere : (List ℕ → Bool) → ℕ → List (List ℕ) → ℕ
+numberWhere p i [] = 0
+numberWhere p i (t ∷ ts) = elim (p t) [ true ↦ i | false ↦ numberWhere p (i + 1) ts ]
 
 -- l with the entries of m written from its front; what follows them stays
 abbrev pub over : List ℕ → List ℕ → List ℕ

@@ -1,4 +1,4 @@
--- The reading rules 1 to 6, once for every way to stand for an ending of a token: `E` is the type of nodes, be it an
+-- The reading rules 1 to 6, once for every way to stand for an ending of a word: `E` is the type of nodes, be it an
 -- ending's own bytes (`Tokens`) or its number in the tables (crate `tables`).
 use Prim.Native.Nat.{ℕ, zero, suc, _+_, _-_, _*_, max}
 use mathlib.Core.Bool.{Bool, true, false, _&&_, _||_}
@@ -7,7 +7,7 @@ use mathlib.Core.Option.{Option, some, none}
 use lib.Dec.{leb, ltb, eqb}
 use Rattle.rules.specs.Lists.{select}
 
--- What the rules ask of the nodes: `token v` is the number of the token that ends at v, or 0; `byteAt v k` the byte of
+-- What the rules ask of the nodes: `token v` is the number of the token that has v's ending for a word, or 0; `byteAt v k` the byte of
 -- v's ending with k others to its right; `ancestor v k` the node of the last k bytes of v's ending; `shift` is rule 5.
 pub record Tree (E : Type 0) : Type 0 where
   pub root : E

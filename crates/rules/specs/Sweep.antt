@@ -1,9 +1,11 @@
 -- A whole sweep by the rules over the tokens, what it fetches and finds, and what it should: the occurrences, and the limits.
 use Prim.Native.Nat.{ℕ, zero, suc, _+_, _-_, _*_, _/_, _^_, _≤_, _<_}
 use mathlib.Core.Path.{_≡_}
+use mathlib.Core.Bool.{true}
 use mathlib.Core.List.{List, [], _∷_, List·Memᴰ}
 use lib.ListN.{length, getD, take, drop}
 use Rattle.rules.specs.Rules.{Event, fetched, recalled, hit, shifted, done, trace, fresh}
+use Rattle.rules.specs.Words.{isWord}
 use Rattle.rules.specs.Tokens.{ofTokens, shortestOf, longestOf}
 
 -- All that happens in an image of n bytes when the k-th fetch gets `ask k place`. The steps are enough (`Laws.Limit.Ends`).
@@ -41,12 +43,13 @@ hitsOf tokens image = hits (happens tokens (length image) (bytesOf image))
 abbrev pub fetchesOf : List (List ℕ) → List ℕ → ℕ
 fetchesOf tokens image = length (places (happens tokens (length image) (bytesOf image)))
 
--- An occurrence: token i (from 0) stands in the image with its right edge at e (document 01: end).
+-- An occurrence: a word of token i (from 0), its bytes or, for a card number, their reverse, stands in the image with its right edge at e
+-- (document 01: end).
 pub record Stands (tokens : List (List ℕ)) (image : List ℕ) (e i : ℕ) : Type 0 where
   pub numbered : i < length tokens
   pub fits : length (getD tokens i []) ≤ e
   pub inside : e ≤ length image
-  pub bytes : take (length (getD tokens i [])) (drop (e - length (getD tokens i [])) image) ≡ getD tokens i []
+  pub bytes : isWord (take (length (getD tokens i [])) (drop (e - length (getD tokens i [])) image)) (getD tokens i []) ≡ true
 
 -- each element stands one time
 abbrev pub Once : {A : Type 0} → List A → Type 0

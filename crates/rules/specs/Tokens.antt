@@ -1,17 +1,22 @@
--- The rules' tree straight from the tokens: a node is an ending, as its bytes from left to right. No table stands here.
+-- The rules' tree straight from the words of the tokens: a node is an ending, as its bytes from left to right. No table stands here.
 use Prim.Native.Nat.{ℕ, _+_, _-_, min, max}
 use mathlib.Core.Bool.{Bool, true, false, _&&_, _||_, not}
 use mathlib.Core.List.{List, [], _∷_}
 use mathlib.Core.Option.{Option, some, none}
 use lib.Dec.{leb, ltb, eqb}
 use lib.ListN.{length, getD, drop}
-use Rattle.rules.specs.Lists.{anyOf, every, least, same, numberFrom}
+use Rattle.rules.specs.Lists.{anyOf, every, least, same}
+use Rattle.rules.specs.Words.{allWords, numberOf}
 use Rattle.rules.specs.Rules.{Tree}
 
--- all body bytes
+-- how many bytes they have together
 abbrev pub total : List (List ℕ) → ℕ
 total [] = 0
 total (t ∷ ts) = length t + total ts
+
+-- All body bytes: those of all words.
+abbrev pub bodyBytes : List (List ℕ) → ℕ
+bodyBytes tokens = total (allWords tokens)
 
 -- S, the shortest length
 abbrev pub shortestOf : List (List ℕ) → ℕ
@@ -32,36 +37,41 @@ ends u t = leb (length u) (length t) && same u (drop (length t - length u) t)
 abbrev pub fromRight : List ℕ → ℕ → ℕ
 fromRight t k = getD t (length t - 1 - k) 0
 
--- Rule 5: token t, moved s to the right, has x where k bytes stand between that place and the old boundary, or does not
+-- Rule 5: the word t, moved s to the right, has x where k bytes stand between that place and the old boundary, or does not
 -- reach so far.
 abbrev pub agrees : List ℕ → ℕ → ℕ → ℕ → Bool
 agrees t s k x = leb (length t) (k + s) || eqb (fromRight t (k + s)) x
 
-module _ (tokens : List (List ℕ)) where
+module _ (words : List (List ℕ)) where
   -- Rule 5: the good-suffix shift (document 01: node shift) of the matched bytes u, cut at S.
   abbrev pub nodeShift : ℕ → List ℕ → ℕ
-  nodeShift shortest u = least (λ s. anyOf (λ t. every (length u) (λ k. agrees t s k (fromRight u k))) tokens) 1 (shortest - 1)
+  nodeShift shortest u = least (λ s. anyOf (λ t. every (length u) (λ k. agrees t s k (fromRight u k))) words) 1 (shortest - 1)
 
   -- Rule 5: the bad-character shift (document 01: byte shift) of the byte that d matched ones lie right of, cut at S.
   abbrev pub byteShift : ℕ → ℕ → Option ℕ → ℕ
   byteShift shortest d none = 1
-  byteShift shortest d (some x) = least (λ s. anyOf (λ t. agrees t s d x) tokens) 1 (shortest - 1)
+  byteShift shortest d (some x) = least (λ s. anyOf (λ t. agrees t s d x) words) 1 (shortest - 1)
 
   -- Rule 5: the greater of the two.
   abbrev pub shiftOf : ℕ → List ℕ → Option ℕ → ℕ
   shiftOf shortest u closing = max (nodeShift shortest u) (byteShift shortest (length u) closing)
 
-  -- the ending with one byte more, if a token has it
+  -- the ending with one byte more, if a word has it
   abbrev pub grown : List ℕ → ℕ → Option (List ℕ)
-  grown u x = elim (anyOf (ends (x ∷ u)) tokens) [ true ↦ some (x ∷ u) | false ↦ none ]
+  grown u x = elim (anyOf (ends (x ∷ u)) words) [ true ↦ some (x ∷ u) | false ↦ none ]
 
-  abbrev pub ofTokens : ℕ → Tree (List ℕ)
-  ofTokens shortest = record {
+  -- The tree, where `number` gives the number of a word's token, and 0 for an ending that is no word.
+  abbrev pub ofWords : (List ℕ → ℕ) → ℕ → Tree (List ℕ)
+  ofWords number shortest = record {
     root = [];
     child = grown;
-    leaf = λ u. not (anyOf (λ t. ltb (length u) (length t) && ends u t) tokens);
-    token = λ u. numberFrom 1 u tokens;
+    leaf = λ u. not (anyOf (λ t. ltb (length u) (length t) && ends u t) words);
+    token = number;
     byteAt = fromRight;
     ancestor = λ u k. drop (length u - k) u;
     shift = shiftOf shortest;
   }
+
+-- The tree of all words of the tokens.
+abbrev pub ofTokens : List (List ℕ) → ℕ → Tree (List ℕ)
+ofTokens tokens = ofWords (allWords tokens) (numberOf tokens)

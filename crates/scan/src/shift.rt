@@ -1,4 +1,4 @@
-// Rule 5 over any tables that are a tree: the node shift and the byte shift, token by token, and the greater of the two.
+// Rule 5 over any tables that are a tree: the node shift and the byte shift, word by word, and the greater of the two.
 
 ghost use Prim.Native.Nat.{_+_, _-_, _≤_, _<_, max};
 ghost use mathlib.Core.Path.{_≡_};
@@ -66,7 +66,7 @@ fn carrier(token: &[u16], v: usize, count: usize) -> usize
     at
 }
 
-// The smallest s from 1 below `best` for which the token agrees with the matched bytes, or `best`. A token that agrees with the last
+// The smallest s from 1 below `best` for which the word agrees with the matched bytes, or `best`. One that agrees with the last
 // of them for no s has none, which is found sooner.
 fn node_lower(body: &[u8], matched: &[u8], best: usize) -> usize
     ensures { λ r. ⌜ r ≡ least (nodeTest (now (matched .entry)) (now (body .entry))) 1 (best - 1) ⌝ }
@@ -81,7 +81,7 @@ fn node_lower(body: &[u8], matched: &[u8], best: usize) -> usize
     agree::node_least(body, matched, best)
 }
 
-// The least shifts with node v's token too; `word` is for its bytes.
+// The least shifts with node v's word too; `word` is for its bytes.
 fn lower(
     parent: &[u16],
     label: &[u8],
@@ -107,7 +107,7 @@ fn lower(
     }
 }
 
-// The least shifts of all tokens, from those of none.
+// The least shifts of all words, from those of none.
 fn all_least(
     parent: &[u16],
     label: &[u8],

@@ -1,5 +1,5 @@
--- Samples: the tables of four tokens, building into longer and into too short tables, and damaged tables with the first node that
--- breaks them.
+-- Samples: the tables of four tokens, and of card numbers, building into longer and into too short tables, and damaged tables with the
+-- first node that breaks them.
 use Prim.{tt}
 use Prim.Native.Nat.{ℕ}
 use mathlib.Core.Path.{_≡_, refl}
@@ -28,6 +28,33 @@ four-built : built ((97 ∷ 98 ∷ []) ∷ (98 ∷ []) ∷ (99 ∷ 98 ∷ []) �
 unfolding built
 four-built = refl
 
+-- "bxcba", "abcx" and "abcdcba". The second is a card number: its nodes "x", "cx", "bcx" and "abcx" come after the first's five, and its
+-- reverse "xcba" is a node of the first, which gets number 2. The third is one that reads the same backwards: it has one word, and four
+-- nodes more than "cba".
+abbrev cards : Tables
+cards = record {
+  parent = 0 ∷ 0 ∷ 1 ∷ 2 ∷ 3 ∷ 4 ∷ 0 ∷ 6 ∷ 7 ∷ 8 ∷ 3 ∷ 10 ∷ 11 ∷ 12 ∷ [];
+  label = 0 ∷ 97 ∷ 98 ∷ 99 ∷ 120 ∷ 98 ∷ 120 ∷ 99 ∷ 98 ∷ 97 ∷ 100 ∷ 99 ∷ 98 ∷ 97 ∷ [];
+  token = 0 ∷ 0 ∷ 0 ∷ 0 ∷ 2 ∷ 1 ∷ 0 ∷ 0 ∷ 0 ∷ 2 ∷ 0 ∷ 0 ∷ 0 ∷ 3 ∷ [];
+  first = 1 ∷ 2 ∷ 3 ∷ 4 ∷ 5 ∷ 0 ∷ 7 ∷ 8 ∷ 9 ∷ 0 ∷ 11 ∷ 12 ∷ 13 ∷ 0 ∷ [];
+  next = 0 ∷ 6 ∷ 0 ∷ 0 ∷ 10 ∷ 0 ∷ 0 ∷ 0 ∷ 0 ∷ 0 ∷ 0 ∷ 0 ∷ 0 ∷ 0 ∷ [];
+}
+
+cards-built : built ((98 ∷ 120 ∷ 99 ∷ 98 ∷ 97 ∷ []) ∷ (97 ∷ 98 ∷ 99 ∷ 120 ∷ []) ∷ (97 ∷ 98 ∷ 99 ∷ 100 ∷ 99 ∷ 98 ∷ 97 ∷ []) ∷ []) ≡ cards
+unfolding built
+cards-built = refl
+
+-- "abcx" alone: the nodes of its own bytes come before those of its reverse, and both ends have its number.
+turned-built : built ((97 ∷ 98 ∷ 99 ∷ 120 ∷ []) ∷ []) ≡ record {
+  parent = 0 ∷ 0 ∷ 1 ∷ 2 ∷ 3 ∷ 0 ∷ 5 ∷ 6 ∷ 7 ∷ [];
+  label = 0 ∷ 120 ∷ 99 ∷ 98 ∷ 97 ∷ 97 ∷ 98 ∷ 99 ∷ 120 ∷ [];
+  token = 0 ∷ 0 ∷ 0 ∷ 0 ∷ 1 ∷ 0 ∷ 0 ∷ 0 ∷ 1 ∷ [];
+  first = 1 ∷ 2 ∷ 3 ∷ 4 ∷ 0 ∷ 6 ∷ 7 ∷ 8 ∷ 0 ∷ [];
+  next = 0 ∷ 5 ∷ 0 ∷ 0 ∷ 0 ∷ 0 ∷ 0 ∷ 0 ∷ 0 ∷ [];
+}
+unfolding built
+turned-built = refl
+
 -- Children: the root's first and second, one that is not there, and one that the walk does not come to over a single node.
 children : childBy four 6 0 98 ∷ childBy four 6 0 97 ∷ childBy four 6 0 99 ∷ childBy four 1 0 97 ∷ [] ≡ some 1 ∷ some 4 ∷ none ∷ none ∷ []
 children = refl
@@ -54,10 +81,10 @@ hits-climbed = refl
 abbrev book : List ℕ
 book = 2 ∷ 98 ∷ 97 ∷ 1 ∷ 97 ∷ 0 ∷ []
 
-abbrev nines : ℕ → Tables
-nines n = record { parent = replicate n 9; label = replicate n 9; token = replicate n 9; first = replicate n 9; next = replicate 4 9 }
+abbrev nines : ℕ → ℕ → Tables
+nines n m = record { parent = replicate n 9; label = replicate n 9; token = replicate n 9; first = replicate n 9; next = replicate m 9 }
 
-building-fits : build book (nines 4) ≡ record {
+building-fits : build book (nines 4 4) ≡ record {
   answer = accepted (record { nodes = 3; shortest = 1; longest = 2 });
   tables = record {
     parent = 0 ∷ 0 ∷ 1 ∷ 9 ∷ [];
@@ -70,8 +97,16 @@ building-fits : build book (nines 4) ≡ record {
 unfolding built
 building-fits = refl
 
-building-short : build book (nines 3) ≡ record { answer = refused 7 4; tables = nines 3 }
+building-short : build book (nines 3 4) ≡ record { answer = refused 7 4; tables = nines 3 4 }
 building-short = refl
+
+-- The book of "abcx" asks for nine entries, as it has two words of four bytes; its own bytes alone would ask for five.
+building-turned : build (4 ∷ 97 ∷ 98 ∷ 99 ∷ 120 ∷ 0 ∷ []) (nines 8 9) ≡ record { answer = refused 7 9; tables = nines 8 9 }
+building-turned = refl
+
+-- With nine it has a node for each ending of both words; S and D are the token's.
+building-both : build (4 ∷ 97 ∷ 98 ∷ 99 ∷ 120 ∷ 0 ∷ []) (nines 9 9) .answer ≡ accepted (record { nodes = 9; shortest = 4; longest = 4 })
+building-both = refl
 
 -- Five lists, the number of nodes, and refusal 9's value.
 record Damaged : Type 0 where

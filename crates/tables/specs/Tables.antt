@@ -1,15 +1,16 @@
--- The tree tables: a node for each different ending of the tokens, and the five entries of each node.
+-- The tree tables: a node for each different ending of the words, and the five entries of each node.
 use Prim.Native.Nat.{ℕ, _+_, min}
 use mathlib.Core.Path.{_≡_}
 use mathlib.Core.Bool.{Bool, true, false}
 use mathlib.Core.List.{List, [], _∷_, _++_, map}
 use lib.Dec.{ltb}
 use lib.ListN.{length}
-use Rattle.rules.specs.Lists.{same, anyOf, numberFrom, over}
-use Rattle.rules.specs.Tokens.{total, shortestOf, longestOf}
+use Rattle.rules.specs.Lists.{same, anyOf, numberWhere, over}
+use Rattle.rules.specs.Words.{allWords, numberOf}
+use Rattle.rules.specs.Tokens.{bodyBytes, shortestOf, longestOf}
 use Rattle.book.specs.Book.{Verdict, accepted, refused, readBook}
 
--- Five tables with one entry a node: its parent, its label, the number of the token that ends there (0: none), its first
+-- Five tables with one entry a node: its parent, its label, the number of the token that has its ending for a word (0: none), its first
 -- child and its next sibling (0: none).
 pub record Tables : Type 0 where
   pub parent : List ℕ
@@ -18,7 +19,7 @@ pub record Tables : Type 0 where
   pub first : List ℕ
   pub next : List ℕ
 
--- The endings of a token from its last byte leftwards, the shortest first; the empty one is left out.
+-- The endings of a word from its last byte leftwards, the shortest first; the empty one is left out.
 abbrev pub endingsOf : List ℕ → List (List ℕ)
 endingsOf [] = []
 endingsOf (x ∷ t) = endingsOf t ++ ((x ∷ t) ∷ [])
@@ -28,13 +29,13 @@ abbrev pub noted : List (List ℕ) → List (List ℕ) → List (List ℕ)
 noted seen [] = seen
 noted seen (u ∷ us) = noted (elim (anyOf (same u) seen) [ true ↦ seen | false ↦ seen ++ (u ∷ []) ]) us
 
-abbrev pub notedTokens : List (List ℕ) → List (List ℕ) → List (List ℕ)
-notedTokens seen [] = seen
-notedTokens seen (t ∷ ts) = notedTokens (noted seen (endingsOf t)) ts
+abbrev pub notedWords : List (List ℕ) → List (List ℕ) → List (List ℕ)
+notedWords seen [] = seen
+notedWords seen (w ∷ ws) = notedWords (noted seen (endingsOf w)) ws
 
--- The nodes, by number: the empty ending (the root), and the others as they first occur, taking the tokens in book order.
+-- The nodes, by number: the empty ending (the root), and the others as they first occur, taking the words in their order.
 abbrev pub nodes : List (List ℕ) → List (List ℕ)
-nodes tokens = notedTokens ([] ∷ []) tokens
+nodes words = notedWords ([] ∷ []) words
 
 -- the label of the node u, the byte added at the left, and its parent's ending; both are nothing for the root
 abbrev pub labelOf : List ℕ → ℕ
@@ -67,11 +68,11 @@ siblings i (u ∷ us) = siblingFrom i u us ∷ siblings (i + 1) us
 -- The tables of the tokens.
 unfoldable pub built : List (List ℕ) → Tables
 built tokens =
-    let us = nodes tokens in
+    let us = nodes (allWords tokens) in
     record {
-      parent = map (λ u. numberFrom 0 (above u) us) us;
+      parent = map (λ u. numberWhere (same (above u)) 0 us) us;
       label = map labelOf us;
-      token = map (λ u. numberFrom 1 u tokens) us;
+      token = map (numberOf tokens) us;
       first = map (λ u. childFrom 0 u us) us;
       next = siblings 1 us;
     }
@@ -100,13 +101,16 @@ shortestTable t =
 
 -- Refusal 7: a table is shorter than 1 + all body bytes.
 abbrev pub tooShort : Tables → List (List ℕ) → Bool
-tooShort t tokens = ltb (shortestTable t) (1 + total tokens)
+tooShort t tokens = ltb (shortestTable t) (1 + bodyBytes tokens)
 
 -- What building gives: the number of nodes, S and D.
 pub record Sizes : Type 0 where
   pub nodes : ℕ
   pub shortest : ℕ
   pub longest : ℕ
+
+abbrev pub sizesOf : List (List ℕ) → Sizes
+sizesOf tokens = record { nodes = length (nodes (allWords tokens)); shortest = shortestOf tokens; longest = longestOf tokens }
 
 -- What building answers, and what the tables then hold.
 pub record Building : Type 0 where
@@ -119,14 +123,7 @@ build book t =
     elim (readBook book) [
       | refused k v ↦ record { answer = refused k v; tables = t }
       | accepted tokens ↦ elim (tooShort t tokens) [
-        | true ↦ record { answer = refused 7 (1 + total tokens); tables = t }
-        | false ↦ record {
-          answer = accepted (record {
-            nodes = length (nodes tokens);
-            shortest = shortestOf tokens;
-            longest = longestOf tokens;
-          });
-          tables = written (built tokens) t;
-        }
+        | true ↦ record { answer = refused 7 (1 + bodyBytes tokens); tables = t }
+        | false ↦ record { answer = accepted (sizesOf tokens); tables = written (built tokens) t }
       ]
     ]

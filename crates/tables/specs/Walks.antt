@@ -1,4 +1,4 @@
--- The rules' nodes as numbers in five tables, built or not: the child with a label, a node's ending, the tokens.
+-- The rules' nodes as numbers in five tables, built or not: the child with a label, a node's ending, the words.
 use Prim.Native.Nat.{ℕ, zero, suc, _-_}
 use mathlib.Core.Bool.{true, false}
 use mathlib.Core.List.{List, [], _∷_}
@@ -48,7 +48,7 @@ nearest t (suc fuel) v = elim (getD (t .token) v 0) [ zero ↦ nearest t fuel (g
 abbrev pub carrier : Tables → ℕ → ℕ
 carrier t v = nearest t v v
 
--- The tokens that tables have: the endings of the nodes below `count` that carry a token number.
+-- The words that tables have: the endings of the nodes below `count` that carry a token's number.
 abbrev pub words : Tables → ℕ → List (List ℕ)
 words t zero = []
 words t (suc v) = elim (getD (t .token) v 0) [ zero ↦ words t v | suc i ↦ ending t v ∷ words t v ]

@@ -1,9 +1,10 @@
 -- Insertion into lent tables: the nodes so far stand in front, and anything behind them.
 use Prim.Native.Nat.{ℕ, _+_, _≤_, _<_}
-use mathlib.Core.Bool.{true, false}
-use mathlib.Core.List.{List}
+use mathlib.Core.Bool.{Bool, true, false}
+use mathlib.Core.List.{List, [], _∷_, reverse}
 use lib.Dec.{eqb}
 use lib.ListN.{length, take, set}
+use Rattle.rules.specs.Words.{allWords}
 use Rattle.tables.specs.Tables.{Tables, nodes, built, written}
 use Rattle.tables.specs.Laws.Inserted.{inserted}
 use Rattle.tables.specs.Laws.Shape.{Shape}
@@ -71,7 +72,7 @@ pub record Counted : Type 0 where
   pub tables : Tables
   pub count : ℕ
 
--- a token's number at the node that its bytes lead to
+-- a token's number at the node that a word's bytes lead to
 abbrev pub numbered : Placed → ℕ → Counted
 numbered p i = record {
   tables = record {
@@ -84,6 +85,16 @@ numbered p i = record {
   count = p .count;
 }
 
+-- The words inserted one after the other, each from the root on, with the number i at its node.
+abbrev pub placedWords : Tables → ℕ → ℕ → List (List ℕ) → Counted
+placedWords t n i [] = record { tables = t; count = n }
+placedWords t n i (w ∷ ws) = let c = numbered (placed t n 0 (reverse w)) i in placedWords (c .tables) (c .count) i ws
+
+-- The bytes of a body in book order, or reversed.
+abbrev pub reversedIf : Bool → List ℕ → List ℕ
+reversedIf false body = body
+reversedIf true body = reverse body
+
 -- The tables of the tokens, in front of what was there.
 unfoldable pub filled : List (List ℕ) → Tables → Counted
-filled tokens t = record { tables = written (built tokens) t; count = length (nodes tokens) }
+filled tokens t = record { tables = written (built tokens) t; count = length (nodes (allWords tokens)) }

@@ -6,7 +6,7 @@ ghost use Rattle.book.specs.Book.{readBook, accepted};
 ghost use Rattle.trie.specs.Answers.{tables};
 ghost use Rattle.trie.specs.InPlace.{filled};
 ghost use Rattle.trie.specs.Laws.TokensInPlace.{Fillable};
-use crate::insert::insert;
+use crate::insert::insert_words;
 
 // The root, and then the book's `many` tokens in order. The number of nodes.
 pub fn fill(
@@ -38,20 +38,11 @@ pub fn fill(
     let mut at = 0;
     let mut number = 1;
     while number <= many {
-        let len = book::body_at(book, at);
-        count = insert(
-            book,
-            at + 1,
-            len,
-            parent,
-            label,
-            token,
-            first,
-            next,
-            count,
-            number,
-        );
-        at = at + 1 + len;
+        let start = at + 1;
+        let end = start + book::body_at(book, at);
+        let body = &book[start..end];
+        count = insert_words(body, parent, label, token, first, next, count, number);
+        at = end;
         number += 1;
     }
     count

@@ -1,8 +1,10 @@
--- Samples of what the view shows, as one table: the book of "ba" and "a" with its tables, whole and cut short, and a refused book.
+-- Samples of what the view shows, as one table: the book of "ba" and "a" with its tables, whole and cut short, and a refused book; and
+-- of a card number's two nodes.
 use Prim.Native.Nat.{ℕ}
 use mathlib.Core.Path.{_≡_, refl}
 use mathlib.Core.List.{List, [], _∷_}
-use Rattle.tables.specs.Tables.{Tables}
+use lib.ListN.{replicate}
+use Rattle.tables.specs.Tables.{Tables, built, build}
 use Rattle.view.specs.View.{nodeOf}
 use Rattle.view.specs.declared.Node.{Node}
 
@@ -48,3 +50,21 @@ rows-right : rows
     ∷ []
 unfolding rows row book refusedBook tree
 rows-right = refl
+
+-- Both nodes of a card number show where its body stands: "abcx" behind "a", with the nodes of its two orders.
+both : List ℕ
+both = 1 ∷ 97 ∷ 4 ∷ 97 ∷ 98 ∷ 99 ∷ 120 ∷ 0 ∷ []
+
+cards : Tables
+unfolding both
+cards = build both (record {
+  parent = replicate 10 0;
+  label = replicate 10 0;
+  token = replicate 10 0;
+  first = replicate 10 0;
+  next = replicate 10 0;
+}) .tables
+
+both-right : row (nodeOf both cards 5) ∷ row (nodeOf both cards 8) ∷ [] ≡ (4 ∷ 97 ∷ 2 ∷ 0 ∷ 0 ∷ 3 ∷ 4 ∷ []) ∷ (7 ∷ 120 ∷ 2 ∷ 0 ∷ 0 ∷ 3 ∷ 4 ∷ []) ∷ []
+unfolding row both cards built
+both-right = refl

@@ -78,6 +78,18 @@ longest-first : (nested .answer ≡ refused 12 3) × (nested .ends ≡ 3 ∷ 3 �
 unfolding happens trace
 longest-first = (refl, refl, refl)
 
+-- A card number stands there reversed and in book order: both hits have its number.
+abbrev turned : ℕ → Swept
+turned n = sweepImage (4 ∷ 97 ∷ 98 ∷ 99 ∷ 120 ∷ 0 ∷ []) (120 ∷ 99 ∷ 98 ∷ 97 ∷ 97 ∷ 98 ∷ 99 ∷ 120 ∷ []) (nines n) (eights 2) (eights 2)
+
+both-found : (turned 9 .answer ≡ accepted 2) × (turned 9 .fetched ≡ 9) × (turned 9 .ends ≡ 4 ∷ 8 ∷ []) × (turned 9 .tokens ≡ 1 ∷ 1 ∷ [])
+unfolding happens trace
+both-found = (refl, refl, refl, refl)
+
+-- 7: the tables are an entry short of both words.
+both-short : turned 8 .answer ≡ refused 7 9
+both-short = refl
+
 -- What a refusal before building leaves: all that was lent.
 abbrev untouched : Verdict ℕ → ℕ → Swept
 untouched answer n = record { answer = answer; fetched = 0; tables = nines n; ends = eights 4; tokens = eights 2 }

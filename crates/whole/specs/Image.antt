@@ -4,7 +4,7 @@ use mathlib.Core.Bool.{Bool, true, false}
 use mathlib.Core.List.{List, map}
 use lib.Dec.{ltb}
 use lib.ListN.{length, take}
-use Rattle.rules.specs.Tokens.{total}
+use Rattle.rules.specs.Tokens.{bodyBytes}
 use Rattle.rules.specs.Lists.{over}
 pub use Rattle.rules.specs.Sweep.{hitsOf, fetchesOf}
 use Rattle.book.specs.Book.{Verdict, accepted, refused, readBook, maxImage}
@@ -41,7 +41,7 @@ sweepImage book image t ends numbers =
     elim (readBook book) [
       | refused k v ↦ record { answer = refused k v; fetched = 0; tables = t; ends = ends; tokens = numbers }
       | accepted tokens ↦ elim (tooShort t tokens) [
-        | true ↦ record { answer = refused 7 (1 + total tokens); fetched = 0; tables = t; ends = ends; tokens = numbers }
+        | true ↦ record { answer = refused 7 (1 + bodyBytes tokens); fetched = 0; tables = t; ends = ends; tokens = numbers }
         | false ↦ elim (tooLong image) [
           | true ↦ record { answer = refused 8 maxImage; fetched = 0; tables = t; ends = ends; tokens = numbers }
           | false ↦ (let found = hitsOf tokens image in

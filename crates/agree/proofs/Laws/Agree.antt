@@ -1,4 +1,4 @@
--- The loops that search a shift of one token.
+-- The loops that search a shift of one word.
 use Prim.Native.Nat.{ℕ, zero, suc, _+_, _-_, _≤_, _<_}
 use native.Mathlib.Omega.{arith}
 use mathlib.Core.Path.{_≡_, refl, ap, sym, _∙_}
@@ -22,7 +22,7 @@ every-none (suc n) p k h e =
     and-false true e = e
     and-false false e = refl
 
--- A token that does not reach so far agrees, and one that does if its byte is the same.
+-- A word that does not reach so far agrees, and one that does if its byte is the same.
 module _ (w : List ℕ) (s k x : ℕ) where
   pub agrees-past : length w ≤ k + s → agrees w s k x ≡ true
   agrees-past l = ap (λ b. b || eqb (fromRight w (k + s)) x) (le-leb (length w) (k + s) l)

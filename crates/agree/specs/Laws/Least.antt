@@ -1,13 +1,14 @@
--- Rule 5 token by token: the smallest shift for which some token passes is the least of the tokens' own, so a search below the best
--- so far is enough.
+-- Rule 5 word by word: the smallest shift for which some word passes is the least of the words' own, so a search below the best so far is
+-- enough.
 use Prim.Native.Nat.{ℕ, zero, suc, _+_, _-_, _≤_, min}
 use native.Mathlib.Nat.{suc-add}
 use native.Mathlib.Omega.{arith}
-use mathlib.Core.Path.{_≡_, refl, sym, _∙_}
+use mathlib.Core.Path.{_≡_, ap, sym, _∙_}
 use mathlib.Core.Bool.{Bool, true, false, _||_}
 use mathlib.Core.List.{List, [], _∷_, _++_}
 use Rattle.rules.specs.Lists.{anyOf, least}
 use Rattle.rules.specs.Laws.Tests.{least-ge, least-upto, least-same}
+use Rattle.rules.specs.Laws.Words.{anyOf-append}
 use Rattle.agree.specs.Tests.{leastOf}
 
 -- of two tests
@@ -32,15 +33,6 @@ least-cut p from (suc f) g = rw (suc-add f g) (go (p from) (least p (from + 1) f
     go true a b e = omega arith
     go false a b e = omega arith
 
-anyOf-snoc : (p : List ℕ → Bool) (ts : List (List ℕ)) (w : List ℕ) → anyOf p (ts ++ (w ∷ [])) ≡ (p w || anyOf p ts)
-anyOf-snoc p [] w = refl
-anyOf-snoc p (t ∷ ts) w = rw (anyOf-snoc p ts w) (go (p t) (p w) (anyOf p ts))
-  where
-    go : (a b c : Bool) → (a || (b || c)) ≡ (b || (a || c))
-    go true true c = refl
-    go true false c = refl
-    go false b c = refl
-
 module _ (p : List ℕ → ℕ → Bool) where
   pub least-none : (S : ℕ) → 1 ≤ S → leastOf p [] S ≡ S
   least-none S h = go 1 (S - 1) ∙ omega arith
@@ -53,14 +45,26 @@ module _ (p : List ℕ → ℕ → Bool) where
     pub least-bounds : (1 ≤ leastOf p ts S) × (leastOf p ts S ≤ S)
     least-bounds = (least-ge (λ s. anyOf (λ w. p w s) ts) 1 (S - 1), omega (arith, least-upto (λ s. anyOf (λ w. p w s) ts) 1 (S - 1)))
 
-    -- A token more, in front or behind: it is enough to search below the best so far.
-    pub least-token : (w : List ℕ) → least (p w) 1 (leastOf p ts S - 1) ≡ leastOf p (w ∷ ts) S
-    least-token w =
+    -- It is enough to search below the best so far.
+    least-below : (q : ℕ → Bool) → least q 1 (leastOf p ts S - 1) ≡ min (least q 1 (S - 1)) (leastOf p ts S)
+    least-below q =
         let b = leastOf p ts S in
         let bounds = least-bounds in
         let more : b - 1 + (S - b) ≡ S - 1 = omega arith in
-        let cut : least (p w) 1 (b - 1) ≡ min (least (p w) 1 (S - 1)) (1 + (b - 1)) = rw more at (least-cut (p w) 1 (b - 1) (S - b)) in
-        omega (arith, cut, least-or (p w) (λ s. anyOf (λ w. p w s) ts) 1 (S - 1))
+        let cut : least q 1 (b - 1) ≡ min (least q 1 (S - 1)) (1 + (b - 1)) = rw more at (least-cut q 1 (b - 1) (S - b)) in
+        omega arith
 
-    pub least-last : (w : List ℕ) → least (p w) 1 (leastOf p ts S - 1) ≡ leastOf p (ts ++ (w ∷ [])) S
-    least-last w = least-token w ∙ sym (least-same _ _ (λ s. anyOf-snoc (λ w. p w s) ts w) 1 (S - 1))
+    -- a word more, in front
+    pub least-word : (w : List ℕ) → least (p w) 1 (leastOf p ts S - 1) ≡ leastOf p (w ∷ ts) S
+    least-word w = omega (arith, least-below (p w), least-or (p w) (λ s. anyOf (λ w. p w s) ts) 1 (S - 1))
+
+    -- words more, behind
+    pub least-words : (ws : List (List ℕ)) → leastOf p ws (leastOf p ts S) ≡ leastOf p (ts ++ ws) S
+    least-words ws =
+        let q : ℕ → Bool = λ s. anyOf (λ w. p w s) ws in
+        let r : ℕ → Bool = λ s. anyOf (λ w. p w s) ts in
+        least-below q ∙ omega (arith, least-or r q 1 (S - 1)) ∙ sym (least-same _ _ (λ s. anyOf-append (λ w. p w s) ts ws) 1 (S - 1))
+
+  -- one word
+  pub least-one : (w : List ℕ) (S : ℕ) → 1 ≤ S → least (p w) 1 (S - 1) ≡ leastOf p (w ∷ []) S
+  least-one w S h = ap (λ b. least (p w) 1 (b - 1)) (sym (least-none S h)) ∙ least-word [] S h w

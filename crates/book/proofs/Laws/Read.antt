@@ -7,13 +7,14 @@ use mathlib.Core.Path.{_≡_, refl, ap, sym, _∙_}
 use borrow.Author.Tests.{le-leb, lt-leb, lt-ltb, le-ltb, eq-eqb, ne-eqb, leb-false, ltb-false}
 use lib.Dec.{leb, ltb}
 use lib.ListN.{length, take, drop}
-use Rattle.rules.specs.Lists.{anyOf, same}
-use Rattle.rules.specs.Tokens.{total}
+use Rattle.rules.specs.Lists.{anyOf}
+use Rattle.rules.specs.Words.{wordsOf, isWord}
+use Rattle.rules.specs.Tokens.{total, bodyBytes}
 use Rattle.rules.specs.Laws.Tests.{or-nl, or-nr}
+use Rattle.rules.specs.Laws.Words.{bytes-snoc}
 use Rattle.book.specs.Book.{Reading, refused, maxTokens, maxBodies, kindAt, sizeAt, bodyAt, overLimits, repeats, closed, readFrom, readBook, summary}
 use Rattle.book.specs.Answers.{Amounts}
 use Rattle.book.specs.Filter.{Covers}
-use Rattle.book.specs.Laws.Accepted.{total-snoc}
 use Rattle.book.specs.Laws.Taken.{Opened, Taken, opened-length}
 use Rattle.book.specs.Laws.Records.{Upto, upto-more}
 use Rattle.book.specs.declared.Totals.{Totals}
@@ -27,7 +28,7 @@ pub record Walk (book : List ℕ) (at : ℕ) (t : Totals) (filter : List ℕ) : 
   pub inside : at ≤ length book
   pub upto : Upto book at tokens
   pub amounts : Amounts t tokens
-  pub within : total tokens ≤ maxBodies
+  pub within : bodyBytes tokens ≤ maxBodies
   pub covers : Covers filter tokens
 
 pub begins : (book : List ℕ) (t : Totals) (filter : List ℕ) → Amounts t [] → Covers filter [] → Walk book 0 t filter
@@ -44,11 +45,11 @@ begins book t filter a c = record {
 }
 
 -- The limits are kept where `over` says so.
-pub room : {over : Bool} (tokens bodies size : ℕ) → over ≡ (leb maxTokens tokens || ltb maxBodies (bodies + size)) → over ≡ false
-    → (tokens < maxTokens) × (bodies + size ≤ maxBodies)
-room tokens bodies size p e = (
+pub room : {over : Bool} (tokens bodies bytes : ℕ) → over ≡ (leb maxTokens tokens || ltb maxBodies (bodies + bytes)) → over ≡ false
+    → (tokens < maxTokens) × (bodies + bytes ≤ maxBodies)
+room tokens bodies bytes p e = (
   leb-false maxTokens tokens (or-nl _ _ (sym p ∙ e)),
-  ltb-false maxBodies (bodies + size) (or-nr (leb maxTokens tokens) _ (sym p ∙ e)),
+  ltb-false maxBodies (bodies + bytes) (or-nr (leb maxTokens tokens) _ (sym p ∙ e)),
 )
 
 module _ {book : List ℕ} {at : ℕ} {t : Totals} {filter : List ℕ} (w : Walk book at t filter) where
@@ -85,11 +86,11 @@ module _ {book : List ℕ} {at : ℕ} {t : Totals} {filter : List ℕ} (w : Walk
         ]
       ]
 
-  -- At a whole record, with what `over` and `repeated` answer.
-  module _ {over : Bool} {size : ℕ} (o : Opened book at) (long : size ≡ sizeAt book at)
-      (p : over ≡ (leb maxTokens (t .tokens) || ltb maxBodies (t .bodies + size))) where
+  -- At a whole record, with what `weight`, `over` and `repeated` answer.
+  module _ {over : Bool} {size bytes : ℕ} (o : Opened book at) (long : size ≡ sizeAt book at) (both : bytes ≡ total (wordsOf (bodyAt book at)))
+      (p : over ≡ (leb maxTokens (t .tokens) || ltb maxBodies (t .bodies + bytes))) where
     limits : overLimits book at (w .tokens) ≡ over
-    limits = sym (p ∙ rw (w .amounts .count, w .amounts .bodies, long))
+    limits = sym (p ∙ rw (w .amounts .count, w .amounts .bodies, both))
 
     opened : readFrom book (suc (w .fuel)) at (w .tokens) ≡ ways over (repeats book at (w .tokens))
     opened =
@@ -107,7 +108,7 @@ module _ {book : List ℕ} {at : ℕ} {t : Totals} {filter : List ℕ} (w : Walk
 
     module _ {repeat : Bool} {after : List ℕ}
         (q : (ts : List (List ℕ)) → Upto book at ts → Covers filter ts
-        → (repeat ≡ anyOf (same (take size (drop (at + 1) book))) ts) × Covers after (ts ++ (take size (drop (at + 1) book) ∷ [])))
+        → (repeat ≡ anyOf (isWord (take size (drop (at + 1) book))) ts) × Covers after (ts ++ (take size (drop (at + 1) book) ∷ [])))
         (e : over ≡ false) where
       told : (repeat ≡ repeats book at (w .tokens)) × Covers after (w .tokens ++ (bodyAt book at ∷ []))
       told = rw long at (q (w .tokens) (w .upto) (w .covers))
@@ -119,13 +120,13 @@ module _ {book : List ℕ} {at : ℕ} {t : Totals} {filter : List ℕ} (w : Walk
       twice f = says (refused 4 at) (rw (e, new ∙ f) at opened)
 
       pub onwards : repeat ≡ false → {u : Totals}
-          → ((ts : List (List ℕ)) (b : List ℕ) → Amounts t ts → size ≡ length b → Amounts u (ts ++ (b ∷ []))) → Walk book (at + (1 + size)) u after
+          → ((ts : List (List ℕ)) (b : List ℕ) → Amounts t ts → size ≡ length b → bytes ≡ total (wordsOf b) → Amounts u (ts ++ (b ∷ [])))
+          → Walk book (at + 1 + size) u after
       onwards f {u} a =
-          let z : at + (1 + size) ≡ at + 1 + sizeAt book at = omega arith in
-          rw z (go (w .fuel) (w .enough) (sym (rw (e, new ∙ f) at opened) ∙ w .rest))
+          rw long (go (w .fuel) (w .enough) (sym (rw (e, new ∙ f) at opened) ∙ w .rest))
         where
-          fits : (t .tokens < maxTokens) × (t .bodies + size ≤ maxBodies)
-          fits = room (t .tokens) (t .bodies) size p e
+          fits : (t .tokens < maxTokens) × (t .bodies + bytes ≤ maxBodies)
+          fits = room (t .tokens) (t .bodies) bytes p e
 
           taken : Taken book at (w .tokens)
           taken = record { opened = o; few = omega (arith, fits, w .amounts .count); small = omega (arith, fits, w .amounts .bodies); new = new ∙ f }
@@ -141,7 +142,7 @@ module _ {book : List ℕ} {at : ℕ} {t : Totals} {filter : List ℕ} (w : Walk
             enough = omega arith;
             inside = o .inside;
             upto = upto-more book at (w .tokens) taken (w .upto);
-            amounts = a (w .tokens) (bodyAt book at) (w .amounts) (long ∙ sym (opened-length book at o));
-            within = rw total-snoc (omega (arith, opened-length book at o, taken .small));
+            amounts = a (w .tokens) (bodyAt book at) (w .amounts) (long ∙ sym (opened-length book at o)) both;
+            within = rw bytes-snoc (taken .small);
             covers = told .1;
           }

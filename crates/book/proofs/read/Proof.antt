@@ -1,11 +1,15 @@
 -- `read` meets its contract. The loop's invariant is `Walk`: the rest of the run from here is the whole run.
 use borrow.Author.Needs.{needs}
-use Prim.Native.Nat.{ℕ, _-_}
+use Prim.Native.Nat.{ℕ, _+_, _-_}
 use native.Mathlib.Omega.{arith}
 use mathlib.Core.List.{List}
-use mathlib.Core.Path.{refl, _∙_}
-use lib.ListN.{length}
-use Rattle.book.specs.Laws.Taken.{Opened, opened-range}
+use mathlib.Core.Path.{_≡_, refl, ap, _∙_}
+use lib.ListN.{length, take, drop}
+use Rattle.rules.specs.Words.{wordsOf}
+use Rattle.rules.specs.Tokens.{total}
+use Rattle.rules.specs.Laws.Words.{words-bytes}
+use Rattle.book.specs.Book.{sizeAt, bodyAt}
+use Rattle.book.specs.Laws.Taken.{Opened, opened-range, opened-length}
 use Rattle.book.proofs.Laws.Read.{Walk, begins, room, missing, unknown, closes, short, beyond, twice, onwards}
 use Rattle.book.proofs.read.Statement.{statement}
 use Rattle.book.proofs.read.Tie as tie
@@ -69,43 +73,77 @@ opened c = record {
   inside = omega (arith, c .before .body-length .ensures);
 }
 
+add-start : tie.Need-add-start Inv-loop μ-loop
+add-start c = omega (arith, opened c .there)
+
+add-end : tie.Need-add-end Inv-loop μ-loop
+add-end c = omega (arith, c .before .body-length .ensures, opened c .inside)
+
+sub-weight : tie.Need-sub-weight Inv-loop μ-loop
+sub-weight c = search needs
+
+part-weight-start : tie.Need-part-weight-start Inv-loop μ-loop
+part-weight-start c = search needs
+
+part-weight-end : tie.Need-part-weight-end Inv-loop μ-loop
+part-weight-end c = omega (arith, c .before .body-length .ensures, opened c .inside)
+
+weight-requires : tie.Need-weight-requires Inv-loop μ-loop
+weight-requires c κs = search needs
+
+-- The bytes of its words.
+abbrev wholeOf : tie.After-weight Inv-loop μ-loop → tie.Else4 Inv-loop μ-loop
+wholeOf c = c .before .before
+
+both : (c : tie.After-weight Inv-loop μ-loop) → let d = wholeOf c in c .weight .result ≡ total (wordsOf (bodyAt (bookOf d) (placeOf d)))
+both c =
+    let d = wholeOf c in
+    let n = d .before .body-length in
+    let z : placeOf d + 1 + n .result - (placeOf d + 1) ≡ sizeAt (bookOf d) (placeOf d) = omega (arith, n .ensures) in
+    c .weight .ensures ∙ ap (λ n. total (wordsOf (take n (drop (placeOf d + 1) (bookOf d))))) z
+
 over-requires : tie.Need-over-requires Inv-loop μ-loop
-over-requires c κs = omega (arith, c .before .body-length .ensures, opened-range (bookOf c) (placeOf c) (opened c))
+over-requires c κs =
+    let d = wholeOf c in
+    omega (
+      arith,
+      both c,
+      words-bytes (bodyAt (bookOf d) (placeOf d)),
+      opened-length (bookOf d) (placeOf d) (opened d),
+      opened-range (bookOf d) (placeOf d) (opened d),
+    )
 
 returns-5 : tie.Need-returns-5 Inv-loop μ-loop
 returns-5 c =
-    let d = c .before .before in
-    beyond (d .before .before .before .before .before .before .loop .inv) (opened d) (d .before .body-length .ensures) (c .before .over .ensures)
-    (c .if5 .taken)
+    let w = c .before .before in
+    let d = wholeOf w in
+    beyond (d .before .before .before .before .before .before .loop .inv) (opened d) (d .before .body-length .ensures) (both w)
+    (c .before .over .ensures) (c .if5 .taken)
 
 repeated-requires : tie.Need-repeated-requires Inv-loop μ-loop
 repeated-requires c κs =
-    let d = c .before .before .before in omega (arith, d .before .body-length .ensures, opened d .inside)
+    let d = wholeOf (c .before .before .before) in omega (arith, d .before .body-length .ensures, opened d .inside)
 
 returns-6 : tie.Need-returns-6 Inv-loop μ-loop
 returns-6 c =
-    let d = c .before .before .before .before .before in
-    twice (d .before .before .before .before .before .before .loop .inv) (opened d) (d .before .body-length .ensures)
+    let w = c .before .before .before .before .before in
+    let d = wholeOf w in
+    twice (d .before .before .before .before .before .before .loop .inv) (opened d) (d .before .body-length .ensures) (both w)
     (c .before .before .before .before .over .ensures) (c .before .repeated .ensures) (c .before .before .before .if5 .left) (c .if6 .taken)
 
 with-requires : tie.Need-with-requires Inv-loop μ-loop
 with-requires c κs = room _ _ _ (c .before .before .before .before .over .ensures) (c .before .before .before .if5 .left)
 
-add-at : tie.Need-add-at Inv-loop μ-loop
-add-at c =
-    let d = c .before .before .before .before .before .before in omega (arith, d .before .body-length .ensures, opened d .inside)
-
-add-at-2 : tie.Need-add-at-2 Inv-loop μ-loop
-add-at-2 c =
-    let d = c .before .before .before .before .before .before in omega (arith, d .before .body-length .ensures, opened d .inside)
-
 loop-less : tie.Need-loop-less Inv-loop μ-loop
-loop-less c = let d = c .before .before .before .before .before .before in omega (arith, opened d .there)
+loop-less c =
+    let d = wholeOf (c .before .before .before .before .before .before) in
+    omega (arith, d .before .body-length .ensures, opened d .inside)
 
 loop-again : tie.Need-loop-again Inv-loop μ-loop
 loop-again c =
-    let d = c .before .before .before .before .before .before in
-    onwards (d .before .before .before .before .before .before .loop .inv) (opened d) (d .before .body-length .ensures)
+    let w = c .before .before .before .before .before .before in
+    let d = wholeOf w in
+    onwards (d .before .before .before .before .before .before .loop .inv) (opened d) (d .before .body-length .ensures) (both w)
     (c .before .before .before .before .before .over .ensures) (c .before .before .repeated .ensures) (c .before .before .before .before .if5 .left)
     (c .before .if6 .left) (c .with .ensures)
 
@@ -126,12 +164,16 @@ read-spec =
     sub-if4
     sub-if4-2
     returns-4
+    add-start
+    add-end
+    sub-weight
+    part-weight-start
+    part-weight-end
+    weight-requires
     over-requires
     returns-5
     repeated-requires
     returns-6
     with-requires
-    add-at
-    add-at-2
     loop-less
     loop-again)

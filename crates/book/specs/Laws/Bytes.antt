@@ -7,16 +7,17 @@ use mathlib.Core.Bool.{false}
 use mathlib.Core.List.{List, [], _∷_, _++_, append-assoc, append-nil}
 use borrow.Author.Tests.{lt-leb, le-ltb, eq-eqb, ne-eqb, eqb-true}
 use lib.Dec.{eqb}
-use lib.ListN.{length, getD, take, drop, length-append, length-drop, List·getD-append}
+use lib.ListN.{length, take, drop, length-append, length-drop, List·getD-append}
 use lib.Seq.{take-all, take-suc, append-snoc, drop-cons, getD-append-seam, getD-drop, drop-drop, take-add, take-at, drop-at}
-use Rattle.rules.specs.Lists.{same, anyOf}
-use Rattle.rules.specs.Tokens.{total}
+use Rattle.rules.specs.Lists.{anyOf}
+use Rattle.rules.specs.Words.{wordsOf, isWord, allWords}
+use Rattle.rules.specs.Tokens.{total, bodyBytes}
 use Rattle.rules.specs.Laws.All.{All, all-append}
 use Rattle.rules.specs.Laws.Tests.{false-test, split, anyOf-out, every-at}
-use Rattle.rules.specs.Laws.Endings.{same→eq}
+use Rattle.rules.specs.Laws.Words.{total-append, bytes-append}
 use Rattle.book.specs.Book.{accepted, maxTokens, maxBodies, bodyLength, kindAt, sizeAt, bodyAt, wholeAt, closed, readFrom, readBook}
 use Rattle.book.specs.Bytes.{kindOf, recordsOf, bookOf}
-use Rattle.book.specs.Laws.Accepted.{Fit, total-append}
+use Rattle.book.specs.Laws.Accepted.{Fit}
 use Rattle.book.specs.Laws.Taken.{Opened, Taken, Closed, whole-is, whole-closed, whole-some, opened-length, accepted-keeps}
 use Rattle.book.specs.Laws.Prefix.{ways, opening}
 
@@ -130,18 +131,17 @@ module _ (book : List ℕ) (fuel at : ℕ) (ts : List (List ℕ)) where
   taken-goes : Taken book at ts → readFrom book (suc fuel) at ts ≡ readFrom book fuel (at + 1 + sizeAt book at) (ts ++ (bodyAt book at ∷ []))
   taken-goes t =
       opening book fuel at ts (t .opened .there) (t .opened)
-      ∙ rw (lt-leb maxTokens (length ts) (t .few), le-ltb maxBodies (total ts + sizeAt book at) (t .small), t .new, ways)
+      ∙ rw (lt-leb maxTokens (length ts) (t .few), le-ltb maxBodies (bodyBytes ts + total (wordsOf (bodyAt book at))) (t .small), t .new, ways)
 
-fit-new : (ts : List (List ℕ)) (t : List ℕ) (us : List (List ℕ)) → Fit (ts ++ t ∷ us) → anyOf (same t) ts ≡ false
-fit-new ts t us f = false-test (anyOf (same t) ts) λ h.
-    let r = anyOf-out (same t) ts [] h in
-    let e : t ≡ getD ts (r .0) [] = same→eq t _ (r .2) in
+fit-new : (ts : List (List ℕ)) (t : List ℕ) (us : List (List ℕ)) → Fit (ts ++ t ∷ us) → anyOf (isWord t) ts ≡ false
+fit-new ts t us f = false-test (anyOf (isWord t) ts) λ h.
+    let r = anyOf-out (isWord t) ts [] h in
     let n = length-append ts (t ∷ us) in
     omega (
       arith,
       r .1,
-      f .distinct (r .0) (length ts) (omega (arith, r .1)) (omega arith)
-          (List·getD-append ts (t ∷ us) [] (r .0) (r .1) ∙ sym (getD-append-seam ts t us [] ∙ e)),
+      f .distinct (length ts) (r .0) (omega arith) (omega (arith, r .1))
+          (rw (getD-append-seam ts t us [], List·getD-append ts (t ∷ us) [] (r .0) (r .1)) (r .2)),
     )
 
 -- With the tokens `done` before place `at`, and from there on the bytes of a book of the tokens `todo`, all are read.
@@ -154,10 +154,10 @@ read-on book (suc fuel) at done (t ∷ todo) e k f some h =
     let b = body-at book at t todo (k .0) e in
     let z = size-at book at t todo (k .0) e in
     let n = simp length-append at (f .count) in
-    let m = simp total-append at (f .bodies) in
+    let m = rw (bytes-append done (t ∷ todo), total-append (wordsOf t) (allWords todo)) at (f .bodies) in
     let a = append-snoc done t todo in
     let o = opened-at book at t todo (k .0) e in
-    taken-goes book fuel at done (record { opened = o; few = omega arith; small = omega arith; new = rw b (fit-new done t todo f) })
+    taken-goes book fuel at done (record { opened = o; few = omega arith; small = rw b (omega arith); new = rw b (fit-new done t todo f) })
     ∙ rw (b, ← a) (read-on book fuel _ (done ++ (t ∷ [])) todo (after-at book at t todo (k .0) e) (k .1) (rw a f) (rw a some) (omega arith))
 
 pub read-bytes : (tokens : List (List ℕ)) → All Kinded tokens → Fit tokens → 1 ≤ length tokens → readBook (bookOf tokens) ≡ accepted tokens

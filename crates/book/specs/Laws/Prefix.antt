@@ -9,9 +9,11 @@ use borrow.Author.Tests.{lt-leb, lt-ltb, le-ltb, eq-eqb, ne-eqb, leb-true, leb-f
 use lib.Dec.{leb, ltb, eqb}
 use lib.ListN.{length, getD, take, drop, length-append, length-drop, take-append-drop, List·getD-append}
 use lib.Seq.{length-take-le, take-all, take-append-le, drop-append-le}
-use Rattle.rules.specs.Lists.{anyOf, same}
-use Rattle.rules.specs.Tokens.{total}
+use Rattle.rules.specs.Lists.{anyOf}
+use Rattle.rules.specs.Words.{wordsOf, isWord}
+use Rattle.rules.specs.Tokens.{total, bodyBytes}
 use Rattle.rules.specs.Laws.Tests.{decide, or-nl, or-nr}
+use Rattle.rules.specs.Laws.Words.{total-bytes, bytes-snoc}
 use Rattle.book.specs.Book.{Reading, refused, maxTokens, maxBodies, maxBody, bodyLength, kindAt, sizeAt, bodyAt, overLimits, repeats, closed, readFrom, readBook}
 use Rattle.book.specs.Laws.Accepted.{total-snoc}
 use Rattle.book.specs.Laws.Taken.{Opened, bodyLength-range, opened-length}
@@ -29,9 +31,9 @@ alike false x x' y y' f g = g refl
 -- The ways on from a whole record, by the length of its body and the body.
 abbrev pub ways : (ℕ → List (List ℕ) → Reading) → ℕ → List (List ℕ) → ℕ → List ℕ → Reading
 ways rest at ts size body =
-    elim (leb maxTokens (length ts) || ltb maxBodies (total ts + size)) [
+    elim (leb maxTokens (length ts) || ltb maxBodies (bodyBytes ts + total (wordsOf body))) [
       | true ↦ refused 5 at
-      | false ↦ elim (anyOf (same body) ts) [ true ↦ refused 4 at | false ↦ rest (at + 1 + size) (ts ++ (body ∷ [])) ]
+      | false ↦ elim (anyOf (isWord body) ts) [ true ↦ refused 4 at | false ↦ rest (at + 1 + size) (ts ++ (body ∷ [])) ]
     ]
 
 -- What the reader answers at place `at`, by the kind there.
@@ -65,16 +67,19 @@ module _ (p q : List ℕ) (long : needed ≤ length p) where
 
   -- With so much fuel, reading on from any place that can be reached answers the same.
   abbrev Same : ℕ → ℕ → Type 0
-  Same f g = (at : ℕ) (ts : List (List ℕ)) → at ≡ length ts + total ts → length ts ≤ maxTokens → total ts ≤ maxBodies
+  Same f g = (at : ℕ) (ts : List (List ℕ)) → at ≡ length ts + total ts → length ts ≤ maxTokens → bodyBytes ts ≤ maxBodies
       → length p < at + f → length p + length q < at + g → readFrom p f at ts ≡ readFrom (p ++ q) g at ts
 
-  module _ (f g at : ℕ) (ts : List (List ℕ)) (z : at ≡ length ts + total ts) (few : length ts ≤ maxTokens) (small : total ts ≤ maxBodies)
+  module _ (f g at : ℕ) (ts : List (List ℕ)) (z : at ≡ length ts + total ts) (few : length ts ≤ maxTokens) (small : bodyBytes ts ≤ maxBodies)
       (hf : length p < at + suc f) (hg : length p + length q < at + suc g) (again : Same f g) where
+    short : total ts ≤ maxBodies
+    short = omega (arith, total-bytes ts)
+
     hp : at < length p
-    hp = omega arith
+    hp = omega (arith, short)
 
     hq : at < length (p ++ q)
-    hq = rw length-append (omega arith)
+    hq = rw length-append (omega (arith, short))
 
     e : kindAt (p ++ q) at ≡ kindAt p at
     e = kind at hp
@@ -84,10 +89,10 @@ module _ (p q : List ℕ) (long : needed ≤ length p) where
       size = bodyLength-range (kindAt p at) (omega arith) k .1
 
       whole : Opened p at
-      whole = record { there = hp; known = k; opens = n; inside = omega (arith, size) }
+      whole = record { there = hp; known = k; opens = n; inside = omega (arith, size, short) }
 
       whole' : Opened (p ++ q) at
-      whole' = record { there = hq; known = rw e k; opens = rw e n; inside = rw (e, length-append) (omega (arith, size)) }
+      whole' = record { there = hq; known = rw e k; opens = rw e n; inside = rw (e, length-append) (omega (arith, size, short)) }
 
       d : bodyAt (p ++ q) at ≡ bodyAt p at
       d = rw e (body (at + 1) (sizeAt p at) (whole .inside))
@@ -99,7 +104,7 @@ module _ (p q : List ℕ) (long : needed ≤ length p) where
           again (at + 1 + sizeAt p at) (ts ++ (bodyAt p at ∷ []))
           (rw (length-append, total-snoc) (omega arith))
           (rw length-append (omega (arith, leb-false maxTokens (length ts) (or-nl _ _ v))))
-          (rw total-snoc (omega (arith, ltb-false maxBodies (total ts + sizeAt p at) (or-nr (leb maxTokens (length ts)) _ v))))
+          (rw bytes-snoc (ltb-false maxBodies (bodyBytes ts + total (wordsOf (bodyAt p at))) (or-nr (leb maxTokens (length ts)) _ v)))
           (omega arith) (omega arith)
 
       record-at : readFrom p (suc f) at ts ≡ readFrom (p ++ q) (suc g) at ts
@@ -116,13 +121,13 @@ module _ (p q : List ℕ) (long : needed ≤ length p) where
         (λ t. unknown p f at ts hp (ltb-true 68 (kindAt p at) t) ∙ sym (unknown (p ++ q) g at ts hq (rw e (ltb-true 68 (kindAt p at) t))))
         (λ k. decide {X = ℕ} (λ _. readFrom p (suc f) at ts ≡ readFrom (p ++ q) (suc g) at ts) (eqb (kindAt p at) 0) 0 0
         (λ t.
-        closing p f at ts hp (eqb-true (kindAt p at) 0 t) (omega arith)
-        ∙ sym (closing (p ++ q) g at ts hq (e ∙ eqb-true (kindAt p at) 0 t) (rw length-append (omega arith))))
+        closing p f at ts hp (eqb-true (kindAt p at) 0 t) (omega (arith, short))
+        ∙ sym (closing (p ++ q) g at ts hq (e ∙ eqb-true (kindAt p at) 0 t) (rw length-append (omega (arith, short)))))
         (λ n. record-at (ltb-false 68 (kindAt p at) k) (eqb-false (kindAt p at) 0 n)))
 
   same-from : (f g : ℕ) → Same f g
-  same-from zero g at ts z few small hf hg = absurd (omega arith)
-  same-from (suc f) zero at ts z few small hf hg = absurd (omega arith)
+  same-from zero g at ts z few small hf hg = absurd (omega (arith, total-bytes ts))
+  same-from (suc f) zero at ts z few small hf hg = absurd (omega (arith, total-bytes ts))
   same-from (suc f) (suc g) at ts z few small hf hg = any-kind f g at ts z few small hf hg (same-from f g)
 
 -- A book is read as its first `n` bytes are, where that is enough.

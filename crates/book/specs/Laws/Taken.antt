@@ -8,7 +8,8 @@ use mathlib.Core.List.{List, [], _∷_, _++_}
 use borrow.Author.Tests.{leb-true, leb-false, ltb-false, eqb-true, eqb-false, lt-leb, le-ltb}
 use lib.Dec.{leb}
 use lib.ListN.{length, length-take, length-drop}
-use Rattle.rules.specs.Tokens.{total}
+use Rattle.rules.specs.Words.{wordsOf}
+use Rattle.rules.specs.Tokens.{total, bodyBytes}
 use Rattle.rules.specs.Laws.Tests.{decide, clash, or-nl, or-nr}
 use Rattle.book.specs.Book.{Reading, accepted, refused, maxTokens, maxBodies, maxBody, bodyLength, kindAt, sizeAt, bodyAt, kindMissing, kindUnknown, closes, bodyShort, wholeAt, overLimits, repeats, trailing, noToken, closed, readFrom, readBook}
 
@@ -54,7 +55,7 @@ pub record Opened (book : List ℕ) (at : ℕ) : Type 0 where
 pub record Taken (book : List ℕ) (at : ℕ) (tokens : List (List ℕ)) : Type 0 where
   pub opened : Opened book at
   pub few : length tokens < maxTokens
-  pub small : total tokens + sizeAt book at ≤ maxBodies
+  pub small : bodyBytes tokens + total (wordsOf (bodyAt book at)) ≤ maxBodies
   pub new : repeats book at tokens ≡ false
 
 pub bodyLength-range : (kind : ℕ) → 1 ≤ kind → kind ≤ 68 → (1 ≤ bodyLength kind) × (bodyLength kind ≤ maxBody)
@@ -116,7 +117,7 @@ module _ (book : List ℕ) (P : ℕ → List (List ℕ) → Type 0)
             inside = ltb-false (length book) (at + 1 + sizeAt book at) d;
           };
           few = leb-false maxTokens (length ts) (or-nl _ _ e);
-          small = ltb-false maxBodies (total ts + sizeAt book at) (or-nr (leb maxTokens (length ts)) _ e);
+          small = ltb-false maxBodies (bodyBytes ts + total (wordsOf (bodyAt book at))) (or-nr (leb maxTokens (length ts)) _ e);
           new = f;
         } in
         read-keeps fuel (at + 1 + sizeAt book at) (ts ++ (bodyAt book at ∷ [])) (more at ts t p)))))))

@@ -6,6 +6,7 @@ use mathlib.Core.Bool.{false}
 use mathlib.Core.List.{List}
 use borrow.Author.Tests.{le-ltb}
 use lib.ListN.{length}
+use Rattle.rules.specs.Words.{allWords}
 use Rattle.rules.specs.Rules.{fresh}
 use Rattle.rules.specs.Tokens.{shortestOf, longestOf}
 use Rattle.rules.specs.Sweep.{happens, bytesOf, places, hits, Occurrences}
@@ -31,13 +32,13 @@ module _ (book : List ℕ) (tokens : List (List ℕ)) (read : readBook book ≡ 
   -- The first call settles what the rules say in all.
   first-settles : (h : length image ≤ maxImage)
       → Settled (given book tokens read t lent (length image) h) (bytesOf image) 0 (answers (happens tokens (length image) (bytesOf image)))
-      (carryOn t (started (length image) (shortestOf tokens) (length (nodes tokens))))
+      (carryOn t (started (length image) (shortestOf tokens) (length (nodes (allWords tokens)))))
   first-settles h =
       let n = length image in
       let S = shortestOf tokens in
       let g = given book tokens read t lent n h in
       let fuel = suc n * (longestOf tokens + 2) in
-      carry-settles g (bytesOf image) (fresh (ofTables t (length (nodes tokens)) S) S) 0 0 0 (fresh-sat g) _ (
+      carry-settles g (bytesOf image) (fresh (ofTables t (length (nodes (allWords tokens))) S) S) 0 0 0 (fresh-sat g) _ (
         fuel,
         λ _. steps-enough n (longestOf tokens) S fuel (g .setting .positive) (omega arith),
         same-answers book tokens read t lent n h (bytesOf image),
@@ -59,12 +60,12 @@ module _ (book : List ℕ) (tokens : List (List ℕ)) (read : readBook book ≡ 
   -- Demand 2 over any tables that begin with the built ones, be they long enough to build into or not; the whole image is swept with any
   -- others that are.
   pub image-demand2 : (tables : Tables) → tooShort tables tokens ≡ false → (s : Scan)
-      → start (length image) (shortestOf tokens) (length (nodes tokens)) ≡ accepted s
+      → start (length image) (shortestOf tokens) (length (nodes (allWords tokens))) ≡ accepted s
       → let r = carryOn t s in
       Demand2 book image (λ calls. swept t image calls r) (λ size calls. sent t image size calls r) (sweepImage book image tables)
       (written (built tokens) tables)
   image-demand2 tables fits s e =
-      let f = start-fresh (length image) (shortestOf tokens) (length (nodes tokens)) s e in
+      let f = start-fresh (length image) (shortestOf tokens) (length (nodes (allWords tokens))) s e in
       let es = happens tokens (length image) (bytesOf image) in
       let x = book-exact book tokens read image in
       let done = answers-end es (x .whole) in

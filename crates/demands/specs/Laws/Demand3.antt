@@ -5,6 +5,7 @@ use mathlib.Core.Path.{_≡_, refl, ap, sym, subst, _∙_}
 use mathlib.Core.Option.{none}
 use mathlib.Core.List.{List}
 use lib.ListN.{length, getD}
+use Rattle.rules.specs.Words.{allWords}
 use Rattle.rules.specs.Rules.{fresh, trace}
 use Rattle.rules.specs.Tokens.{shortestOf, longestOf}
 use Rattle.rules.specs.Laws.Limit.Ends.{steps-enough}
@@ -23,11 +24,11 @@ use Rattle.demands.specs.Laws.Lists.{calls-right}
 
 module _ (book : List ℕ) (tokens : List (List ℕ)) (read : readBook book ≡ accepted tokens) (t : Tables) (lent : Lent t (built tokens)) where
   fresh-demand3 : (n : ℕ) → n ≤ maxImage → (calls : List Call)
-      → Demand3 book (longestOf tokens) n calls (ran t (started n (shortestOf tokens) (length (nodes tokens))) calls)
+      → Demand3 book (longestOf tokens) n calls (ran t (started n (shortestOf tokens) (length (nodes (allWords tokens)))) calls)
   fresh-demand3 n h calls =
       let S = shortestOf tokens in
       let D = longestOf tokens in
-      let count = length (nodes tokens) in
+      let count = length (nodes (allWords tokens)) in
       let g = given book tokens read t lent n h in
       let all = ran t (started n S count) calls .taken in
       let fuel = suc n * (D + 2) in
@@ -47,9 +48,9 @@ module _ (book : List ℕ) (tokens : List (List ℕ)) (read : readBook book ≡ 
       }
 
   -- Demand 3 over any tables that begin with the built ones, be they long enough to build into or not.
-  pub calls-demand3 : (n : ℕ) (s : Scan) → start n (shortestOf tokens) (length (nodes tokens)) ≡ accepted s → (calls : List Call)
+  pub calls-demand3 : (n : ℕ) (s : Scan) → start n (shortestOf tokens) (length (nodes (allWords tokens))) ≡ accepted s → (calls : List Call)
       → Demand3 book (longestOf tokens) n calls (ran t s calls)
-  calls-demand3 n s e calls = let f = start-fresh n (shortestOf tokens) (length (nodes tokens)) s e in rw (f .1) (fresh-demand3 n (f .0) calls)
+  calls-demand3 n s e calls = let f = start-fresh n (shortestOf tokens) (length (nodes (allWords tokens))) s e in rw (f .1) (fresh-demand3 n (f .0) calls)
 
 pub demand3 : Demand3For
 unfolding Demand3For

@@ -7,13 +7,12 @@ use borrow.Author.Tests.{le-ltb, ltb-false}
 use lib.Dec.{ltb}
 use lib.ListN.{length, take, replicate, length-map, length-append, length-replicate}
 use lib.Seq.{take-nil, take-all, take-length, take-at}
-use Rattle.rules.specs.Tokens.{total}
+use Rattle.rules.specs.Tokens.{bodyBytes}
 use Rattle.rules.specs.Sweep.{happens, bytesOf, hitsOf}
 use Rattle.rules.specs.Laws.Tests.{decide}
 use Rattle.book.specs.Book.{readBook, accepted, refused, maxImage}
 use Rattle.book.specs.Laws.Sweep.{book-exact}
-use Rattle.tables.specs.Tables.{Tables, Sizes, tooShort, build}
-use Rattle.tables.specs.Laws.Made.{sizesOf}
+use Rattle.tables.specs.Tables.{Tables, Sizes, sizesOf, tooShort, build}
 use Rattle.scan.specs.Start.{started, start}
 use Rattle.scan.specs.Calls.{Answer, fetch, found, over, refused as denied}
 use Rattle.scan.specs.Answers.{answers, hitsIn}
@@ -96,7 +95,7 @@ module _ (book : List ℕ) (tokens : List (List ℕ)) (read : readBook book ≡ 
 
   takes : (ends numbers : List ℕ) → Takes (sweepImage book image lent ends numbers)
   takes ends numbers = rw (read, sweepImage)
-      (decide Takes (tooShort lent tokens) _ _ (λ _. refuses 7 (1 + total tokens) ends numbers)
+      (decide Takes (tooShort lent tokens) _ _ (λ _. refuses 7 (1 + bodyBytes tokens) ends numbers)
       (λ f. decide Takes (tooLong image) _ _ (λ _. refuses 8 maxImage ends numbers) (λ l n e. (cc (read, f), ltb-false maxImage (length image) l))))
 
   -- Hits that are as many as these, and stand in both buffers as these do, are these.

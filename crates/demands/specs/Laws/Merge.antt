@@ -1,47 +1,59 @@
 -- A merged book finds what its two books find: a hit, by its end and its token's bytes, is found with a book exactly if the bytes are one of
--- its tokens and stand there.
+-- its tokens and a word of it stands there.
 use Prim.Native.Nat.{ℕ, _+_, _-_, _≤_}
 use native.Mathlib.Omega.{arith}
 use mathlib.Core.Path.{_≡_, refl, ap, sym, subst, _∙_}
 use mathlib.Core.Bool.{Bool, true, false}
 use mathlib.Core.Logic.{_⊎_, inl, inr, ⊎-map}
-use mathlib.Core.List.{List, [], List·Memᴰ, List·Memᴰ·append-cases}
+use mathlib.Core.List.{List, [], _∷_, List·Memᴰ, List·Memᴰ·head, List·Memᴰ·tail, List·Memᴰ·append-cases}
 use mathlib.Core.List.{Memᴰ·cast, Memᴰ·map, Memᴰ·of-map, Memᴰ·append-left, Memᴰ·append-right}
 use borrow.Author.Tests.{not-false}
 use lib.ListN.{length, getD, take, drop}
-use Rattle.rules.specs.Lists.{same}
+use Rattle.rules.specs.Words.{isWord}
 use Rattle.rules.specs.Sweep.{Stands, Once, hitsOf}
 use Rattle.rules.specs.Laws.Tests.{anyOf-out}
-use Rattle.rules.specs.Laws.Endings.{same→eq}
-use Rattle.rules.specs.Laws.Members.{select-in, select-out, mem-at, number-of, once-map}
+use Rattle.rules.specs.Laws.Words.{own-word, word-length, word-shared, word-sym}
+use Rattle.rules.specs.Laws.Members.{select-in, select-out, mem-at, number-of}
 use Rattle.book.specs.Book.{found, missing, unread, accepted, readBook}
 use Rattle.book.specs.Laws.Accepted.{accepted-fit}
 use Rattle.book.specs.Laws.Records.{accepted-place, accepted-body}
 use Rattle.book.specs.Laws.Sweep.{book-exact}
 use Rattle.merge.specs.Merge.{lacks, merged, merge}
 use Rattle.merge.specs.Laws.Valid.{merge-reads}
-use Rattle.demands.specs.Merge.{tokenIn, named, Sweep, Union, Valid, ValidFor, UnionFor}
+use Rattle.demands.specs.Merge.{tokenIn, named, Sweep, Apart, Union, Valid, ValidFor, UnionFor}
 use Rattle.demands.specs.Laws.Found.{sweep-finds}
 
--- The merged tokens are those of the one book or of the other; the first book's stand in front.
+-- The merged tokens are those of the one book or of the other; the first book's stand in front, and of the second's each is there or is a
+-- word of one that is.
 module _ (tokens others : List (List ℕ)) where
-  merged-right : (t : List ℕ) → List·Memᴰ t others → List·Memᴰ t (merged tokens others)
+  merged-right : (t : List ℕ) → List·Memᴰ t others → (u : List ℕ) × List·Memᴰ u (merged tokens others) × (isWord u t ≡ true)
   merged-right t m = go (lacks tokens t) refl
     where
-      go : (b : Bool) → lacks tokens t ≡ b → List·Memᴰ t (merged tokens others)
-      go true e = Memᴰ·append-right tokens (select-in (lacks tokens) t others m e)
+      go : (b : Bool) → lacks tokens t ≡ b → (u : List ℕ) × List·Memᴰ u (merged tokens others) × (isWord u t ≡ true)
+      go true e = (t, Memᴰ·append-right tokens (select-in (lacks tokens) t others m e), own-word t)
       go false e =
-          let r = anyOf-out (same t) tokens [] (not-false _ e) in
-          Memᴰ·append-left _ (Memᴰ·cast (same→eq t _ (r .2)) (mem-at [] tokens (r .0) (r .1)))
+          let r = anyOf-out (isWord t) tokens [] (not-false _ e) in
+          (getD tokens (r .0) [], Memᴰ·append-left _ (mem-at [] tokens (r .0) (r .1)), word-sym t (getD tokens (r .0) []) (r .2))
 
   merged-only : (t : List ℕ) → List·Memᴰ t (merged tokens others) → List·Memᴰ t tokens ⊎ List·Memᴰ t others
   merged-only t m = elim (List·Memᴰ·append-cases tokens m) [ inl k ↦ inl k | inr k ↦ inr (select-out (lacks tokens) t others k .0) ]
 
--- The bytes t stand in the image with their right edge at e.
+-- A word of t stands in the image with its right edge at e.
 record Lies (image : List ℕ) (e : ℕ) (t : List ℕ) : Type 0 where
   fits : length t ≤ e
   inside : e ≤ length image
-  bytes : take (length t) (drop (e - length t) image) ≡ t
+  bytes : isWord (take (length t) (drop (e - length t) image)) t ≡ true
+
+-- So does one of u, if the two are words of each other.
+lies-too : (image : List ℕ) (e : ℕ) (t u : List ℕ) → isWord u t ≡ true → Lies image e t → Lies image e u
+lies-too image e t u w l =
+    let n : length u ≡ length t = word-length u t w in
+    let x = take (length t) (drop (e - length t) image) in
+    record {
+      fits = rw n (l .fits);
+      inside = l .inside;
+      bytes = rw n (word-shared t x u (word-sym x t (l .bytes)) (word-sym u t w));
+    }
 
 module _ (book : List ℕ) (tokens : List (List ℕ)) (read : readBook book ≡ accepted tokens) (image : List ℕ) where
   token-is : (i : ℕ) → 1 ≤ i → i ≤ length tokens → tokenIn book i ≡ getD tokens (i - 1) []
@@ -82,19 +94,25 @@ module _ (book : List ℕ) (tokens : List (List ℕ)) (read : readBook book ≡ 
       let t : h .1 ≡ tokenIn book (i + 1) = sym (rw z at (token-is (i + 1) (omega arith) (omega (arith, r .1))) ∙ r .2) in
       Memᴰ·cast (λ j. (h .0, t j)) (Memᴰ·map _ (book-exact book tokens read image .occurrences .complete (h .0) i s))
 
-  hits-once : Once hits
-  hits-once = once-map _ (hitsOf tokens image) same-hit (book-exact book tokens read image .occurrences .once)
-    where
-      same-hit : (g h : ℕ × ℕ) → List·Memᴰ g (hitsOf tokens image) → List·Memᴰ h (hitsOf tokens image)
-          → _≡_ {A = ℕ × List ℕ} (g .0, tokenIn book (g .1)) (h .0, tokenIn book (h .1)) → g ≡ h
-      same-hit g h j k e =
-          let a = is-hit g j in
-          let b = is-hit h k in
-          let p : g .0 ≡ h .0 = ap (λ h. h .0) e in
-          let t = sym (a .token) ∙ ap (λ h. h .1) e ∙ b .token in
-          let i = accepted-fit book tokens read .distinct (g .1 - 1) (h .1 - 1) (a .stands .numbered) (b .stands .numbered) t in
-          let q : g .1 ≡ h .1 = omega (arith, i, a .some, b .some) in
-          λ d. (p d, q d)
+  same-hit : (g h : ℕ × ℕ) → Hit g → Hit h → g .0 ≡ h .0 → isWord (tokenIn book (g .1)) (tokenIn book (h .1)) ≡ true → g ≡ h
+  same-hit g h a b p w =
+      let i = accepted-fit book tokens read .distinct (g .1 - 1) (h .1 - 1) (a .stands .numbered) (b .stands .numbered) (rw (a .token, b .token) at w) in
+      let q : g .1 ≡ h .1 = omega (arith, i, a .some, b .some) in
+      λ d. (p d, q d)
+
+  named-once : (l : List (ℕ × ℕ)) → ((h : ℕ × ℕ) → List·Memᴰ h l → Hit h) → Once l → Apart (named book l)
+  named-once [] f o = tt
+  named-once (h ∷ l) f o = (
+    λ m.
+        let r = Memᴰ·of-map _ l (m .1) in
+        let p = ap (λ g. g .0) (r .2) ∙ m .2 in
+        let w = subst (λ g. isWord (g .1) (tokenIn book (h .1)) ≡ true) (sym (r .2)) (m .3) in
+        o .0 (Memᴰ·cast (sym (same-hit (r .0) h (f (r .0) (List·Memᴰ·tail (r .1))) (f h (List·Memᴰ·head refl)) p w)) (r .1)),
+    named-once l (λ g m. f g (List·Memᴰ·tail m)) (o .1),
+  )
+
+  hits-once : Apart hits
+  hits-once = named-once (hitsOf tokens image) is-hit (book-exact book tokens read image .occurrences .once)
 
 from-valid : (first second book : List ℕ) → Valid first second book → (image : List ℕ) (one two all : List (ℕ × ℕ))
     → Sweep first image one → Sweep second image two → Sweep book image all → Union (named first one) (named second two) (named book all)
@@ -113,7 +131,8 @@ from-valid first second book v image one two all s₁ s₂ s =
           hits-in book both (v .reads) image h (Memᴰ·append-left _ (r .0)) (r .1);
       right = λ h m.
           let r = hits-out second others (v .reads-second) image h m in
-          hits-in book both (v .reads) image h (merged-right tokens others (h .1) (r .0)) (r .1);
+          let u = merged-right tokens others (h .1) (r .0) in
+          ((h .0, u .0), hits-in book both (v .reads) image (h .0, u .0) (u .1) (lies-too image (h .0) (h .1) (u .0) (u .2) (r .1)), refl, u .2);
       only = λ h m.
           let r = hits-out book both (v .reads) image h m in
           ⊎-map (λ k. hits-in first tokens (v .reads-first) image h k (r .1)) (λ k. hits-in second others (v .reads-second) image h k (r .1))

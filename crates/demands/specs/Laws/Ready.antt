@@ -5,6 +5,7 @@ use mathlib.Core.Path.{_≡_, ap, _∙_}
 use mathlib.Core.List.{List}
 use borrow.Author.Tests.{ltb-false}
 use lib.ListN.{length}
+use Rattle.rules.specs.Words.{allWords}
 use Rattle.rules.specs.Rules.{fresh, trace}
 use Rattle.rules.specs.Tokens.{shortestOf, longestOf}
 use Rattle.rules.specs.Sweep.{happens}
@@ -28,7 +29,7 @@ start-fresh n S count s =
     (λ f e. (ltb-false maxImage n f, cc))
 
 module _ (book : List ℕ) (tokens : List (List ℕ)) (read : readBook book ≡ accepted tokens) (t : Tables) (lent : Lent t (built tokens)) where
-  pub given : (n : ℕ) → n ≤ maxImage → Given tokens (shortestOf tokens) (longestOf tokens) t (length (nodes tokens)) n
+  pub given : (n : ℕ) → n ≤ maxImage → Given tokens (shortestOf tokens) (longestOf tokens) t (length (nodes (allWords tokens))) n
   given n h =
       let f = accepted-fit book tokens read in
       let r = built-represents tokens f t lent in
@@ -45,12 +46,12 @@ module _ (book : List ℕ) (tokens : List (List ℕ)) (read : readBook book ≡ 
   -- What the rules say over the tokens they say over the tables.
   pub same-answers : (n : ℕ) → n ≤ maxImage → (ask : ℕ → ℕ → ℕ)
       → answers (happens tokens n ask)
-      ≡ answers (trace (ofTables t (length (nodes tokens)) (shortestOf tokens)) n ask (suc n * (longestOf tokens + 2)) 0
-      (fresh (ofTables t (length (nodes tokens)) (shortestOf tokens)) (shortestOf tokens)))
+      ≡ answers (trace (ofTables t (length (nodes (allWords tokens))) (shortestOf tokens)) n ask (suc n * (longestOf tokens + 2)) 0
+      (fresh (ofTables t (length (nodes (allWords tokens))) (shortestOf tokens)) (shortestOf tokens)))
   unfolding happens
   same-answers n h ask =
       let S = shortestOf tokens in
-      let count = length (nodes tokens) in
+      let count = length (nodes (allWords tokens)) in
       let g = given n h in
       let fuel = suc n * (longestOf tokens + 2) in
       let c = fresh (ofTables t count S) S in

@@ -14,7 +14,7 @@ use Rattle.rules.specs.Tokens.{nodeShift, byteShift, shiftOf}
 use Rattle.rules.specs.Laws.Tests.{split, least-ge}
 use Rattle.agree.specs.Tests.{nodeTest, leastOf}
 use Rattle.agree.specs.Laws.Least.{least-bounds}
-use Rattle.image.specs.Rule5.{tokensOf, Accepted, nameOf, Right, ByNode, ByByte}
+use Rattle.image.specs.Rule5.{wordsIn, Accepted, nameOf, Right, ByNode, ByByte}
 use Rattle.image.proofs.Laws.Rule5.{shortest-near}
 
 -- An entry of the cache that is given `by` at i.
@@ -24,21 +24,21 @@ set-right cache i by v r h f old =
     split v i (λ e _. ap (λ j. getD (set cache i by) j 0) e ∙ getD-set-same cache i by 0 h ∙ f e)
     (λ d. rw (getD-set-other cache i v by 0 d) old)
 
-pub least-fits : (p : List ℕ → ℕ → Bool) {book : List ℕ} {S : ℕ} → Accepted book S → (by : ℕ) → by ≡ leastOf p (tokensOf book) S → Fits w16 by
+pub least-fits : (p : List ℕ → ℕ → Bool) {book : List ℕ} {S : ℕ} → Accepted book S → (by : ℕ) → by ≡ leastOf p (wordsIn book) S → Fits w16 by
 least-fits p {book} {S} a by e =
     let near = shortest-near a in
-    record { fits = omega (arith, least-bounds p (tokensOf book) S (near .0)) }
+    record { fits = omega (arith, least-bounds p (wordsIn book) S (near .0)) }
 
 module _ {book : List ℕ} {S : ℕ} {cache : List ℕ} (by : ℕ) where
-  pub by-node-set : ByNode book S cache → (node : ℕ) → node < length cache → by ≡ nodeShift (tokensOf book) S (nameOf book node)
+  pub by-node-set : ByNode book S cache → (node : ℕ) → node < length cache → by ≡ nodeShift (wordsIn book) S (nameOf book node)
       → ByNode book S (set cache node by)
   by-node-set b node h e = record {
-    right = λ v. set-right cache node by v _ h (λ z. e ∙ ap (λ v. nodeShift (tokensOf book) S (nameOf book v)) (sym z)) (b .right v);
+    right = λ v. set-right cache node by v _ h (λ z. e ∙ ap (λ v. nodeShift (wordsIn book) S (nameOf book v)) (sym z)) (b .right v);
   }
 
   -- Two places of a cache by depth and byte are one only if depth and byte are the same.
   pub by-byte-set : ByByte book S cache → (depth byte : ℕ) → depth < 64 → byte < 256
-      → by ≡ byteShift (tokensOf book) S depth (some byte) → ByByte book S (set cache (256 * depth + byte) by)
+      → by ≡ byteShift (wordsIn book) S depth (some byte) → ByByte book S (set cache (256 * depth + byte) by)
   by-byte-set b depth byte hd hx e = record {
     size = rw (length-set cache (256 * depth + byte) by) (b .size);
     right = λ d x kd kx.
@@ -46,15 +46,15 @@ module _ {book : List ℕ} {S : ℕ} {cache : List ℕ} (by : ℕ) where
         (λ z.
         let p : depth ≡ d = omega arith in
         let q : byte ≡ x = omega arith in
-        e ∙ ap (λ d. byteShift (tokensOf book) S d (some byte)) p ∙ ap (λ x. byteShift (tokensOf book) S d (some x)) q)
+        e ∙ ap (λ d. byteShift (wordsIn book) S d (some byte)) p ∙ ap (λ x. byteShift (wordsIn book) S d (some x)) q)
         (b .right d x kd kx);
   }
 
 -- Rule 5 for the matched bytes u, with their node shift.
-module _ (tokens : List (List ℕ)) (S : ℕ) (u : List ℕ) (by : ℕ) (e : by ≡ nodeShift tokens S u) (closing : Option ℕ) where
-  pub shift-nothing : closing ≡ none → by ≡ shiftOf tokens S u closing
-  shift-nothing z = rw z (omega (arith, least-ge (λ s. anyOf (λ w. nodeTest u w s) tokens) 1 (S - 1)))
+module _ (words : List (List ℕ)) (S : ℕ) (u : List ℕ) (by : ℕ) (e : by ≡ nodeShift words S u) (closing : Option ℕ) where
+  pub shift-nothing : closing ≡ none → by ≡ shiftOf words S u closing
+  shift-nothing z = rw z (omega (arith, least-ge (λ s. anyOf (λ w. nodeTest u w s) words) 1 (S - 1)))
 
-  pub shift-byte : (x : ℕ) → closing ≡ some x → (on : ℕ) → on ≡ byteShift tokens S (length u) (some x) → (r : ℕ) → r ≡ max by on
-      → r ≡ shiftOf tokens S u closing
+  pub shift-byte : (x : ℕ) → closing ≡ some x → (on : ℕ) → on ≡ byteShift words S (length u) (some x) → (r : ℕ) → r ≡ max by on
+      → r ≡ shiftOf words S u closing
   shift-byte x z on f r q = rw (z, q, e, f)

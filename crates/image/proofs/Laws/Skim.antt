@@ -10,7 +10,7 @@ use Rattle.rules.specs.Laws.Exact.Shift.{shift-upto}
 use Rattle.book.specs.Book.{maxImage, maxBody}
 use Rattle.book.specs.Laws.Accepted.{accepted-setting}
 use Rattle.image.specs.declared.skim.Skipped.{Skipped}
-use Rattle.image.specs.Rule5.{tokensOf, BySkip}
+use Rattle.image.specs.Rule5.{tokensOf, wordsIn, BySkip}
 use Rattle.image.specs.Sweeping.{Stands, Cached, Four, Paired, Skimmable, onAt, Leads, Skimmed}
 use Rattle.image.specs.Laws.RoundByRound.{fetched-small, short-upto}
 use Rattle.image.specs.Laws.ShortRounds.{skims, skims-two}
@@ -124,4 +124,4 @@ module _ {image skip pairs : List ℕ} {S b : ℕ} (g : Skimmable image skip pai
       (λ e. omega arith)
       (λ d.
       let r = g .right .right x (k .byte) (λ z. d (k .shift ∙ z)) .1 in
-      omega (arith, k .shift, r, shift-upto (tokensOf (g .book)) S (short-some .0) [] (some x)))
+      omega (arith, k .shift, r, shift-upto (wordsIn (g .book)) S (short-some .0) [] (some x)))

@@ -6,12 +6,13 @@ use mathlib.Core.Bool.{true, false}
 use mathlib.Core.List.{List, map}
 use borrow.Author.Tests.{lt-ltb, le-ltb}
 use lib.ListN.{length, take, drop, length-append, length-take, length-drop, length-map}
-use Rattle.rules.specs.Tokens.{total}
+use Rattle.rules.specs.Words.{allWords}
+use Rattle.rules.specs.Tokens.{bodyBytes}
 use Rattle.rules.specs.Laws.Tests.{decide}
 use Rattle.book.specs.Book.{Verdict, Reading, accepted, refused, Totals, summary, readBook, maxImage}
 use Rattle.book.specs.Laws.Accepted.{Summed, accepted-fit}
-use Rattle.tables.specs.Tables.{Tables, nodes, built, Lent, written, tooShort, shortestTable, Sizes, Building, build}
-use Rattle.tables.specs.Laws.Made.{sizesOf, written-lent, answerTo, build-made}
+use Rattle.tables.specs.Tables.{Tables, nodes, built, Lent, written, tooShort, shortestTable, Sizes, sizesOf, Building, build}
+use Rattle.tables.specs.Laws.Made.{written-lent, answerTo, build-made}
 use Rattle.tables.specs.Laws.Represents.{built-represents}
 use Rattle.whole.specs.Image.{Swept, tooLong, room, hitsOf, fetchesOf, counted, noted, sweepImage}
 use Rattle.image.specs.Results.{refusalFor}
@@ -22,7 +23,7 @@ use Rattle.image.specs.Sweeping.{Given}
 abbrev refusalTo : Tables → Reading → Verdict ℕ
 refusalTo t r = elim r [
   | refused k v ↦ refused k v
-  | accepted tokens ↦ elim (tooShort t tokens) [ true ↦ refused 7 (1 + total tokens) | false ↦ refused 8 maxImage ]
+  | accepted tokens ↦ elim (tooShort t tokens) [ true ↦ refused 7 (1 + bodyBytes tokens) | false ↦ refused 8 maxImage ]
 ]
 
 module _ (image : List ℕ) (t : Tables) (ends numbers : List ℕ) where
@@ -45,7 +46,7 @@ module _ (image : List ℕ) (t : Tables) (ends numbers : List ℕ) where
   sweptTo r = elim r [
     | refused k v ↦ untouched (refused k v)
     | accepted tokens ↦ elim (tooShort t tokens) [
-      | true ↦ untouched (refused 7 (1 + total tokens))
+      | true ↦ untouched (refused 7 (1 + bodyBytes tokens))
       | false ↦ elim (tooLong image) [ true ↦ untouched (refused 8 maxImage) | false ↦ whole tokens ]
     ]
   ]
@@ -61,10 +62,10 @@ module _ (book : List ℕ) (t : Tables) where
 
   -- 7 and 8
   module _ (totals : Totals) (s : Summed book totals) (entries : ℕ) (e : entries ≡ shortestTable t) where
-    bodies : totals .bodies ≡ total (s .tokens)
+    bodies : totals .bodies ≡ bodyBytes (s .tokens)
     bodies = ap (λ a. a .bodies) (s .sums)
 
-    to-short : tooShort t (s .tokens) ≡ true → refused 7 (1 + total (s .tokens)) ≡ refusalTo t (accepted (s .tokens))
+    to-short : tooShort t (s .tokens) ≡ true → refused 7 (1 + bodyBytes (s .tokens)) ≡ refusalTo t (accepted (s .tokens))
     to-short q = cc
 
     to-long : tooShort t (s .tokens) ≡ false → refused 8 maxImage ≡ refusalTo t (accepted (s .tokens))
@@ -73,12 +74,12 @@ module _ (book : List ℕ) (t : Tables) where
     pub refusal-short : entries < 1 + totals .bodies → refused 7 (1 + totals .bodies) ≡ refusalFor book t
     refusal-short h =
         ap (λ n. refused 7 (1 + n)) bodies
-        ∙ to-short (lt-ltb (shortestTable t) (1 + total (s .tokens)) (omega (arith, bodies)))
+        ∙ to-short (lt-ltb (shortestTable t) (1 + bodyBytes (s .tokens)) (omega (arith, bodies)))
         ∙ ap (refusalTo t) (sym (s .read))
 
     pub refusal-long : 1 + totals .bodies ≤ entries → refused 8 maxImage ≡ refusalFor book t
     refusal-long h =
-        to-long (le-ltb (shortestTable t) (1 + total (s .tokens)) (omega (arith, bodies))) ∙ ap (refusalTo t) (sym (s .read))
+        to-long (le-ltb (shortestTable t) (1 + bodyBytes (s .tokens)) (omega (arith, bodies))) ∙ ap (refusalTo t) (sym (s .read))
 
 module _ (book image : List ℕ) (t : Tables) (ends numbers : List ℕ) where
   -- an image over its limit
@@ -115,14 +116,14 @@ module _ (book image : List ℕ) (t : Tables) (ends numbers : List ℕ) where
         omega arith
 
     to-untouched : (tokens : List (List ℕ)) → tooShort t tokens ≡ true
-        → untouched image t ends numbers (refused 7 (1 + total tokens)) ≡ sweptTo image t ends numbers (accepted tokens)
+        → untouched image t ends numbers (refused 7 (1 + bodyBytes tokens)) ≡ sweptTo image t ends numbers (accepted tokens)
     to-untouched tokens q = cc
 
     by-reading : (r : Reading) → here ≡ answerTo t r → there ≡ sweptTo image t ends numbers r
     by-reading (refused l w) = same l w
     by-reading (accepted tokens) =
         decide (λ b. here ≡ b → there ≡ sweptTo image t ends numbers (accepted tokens)) (tooShort t tokens) _ _
-        (λ q e. same 7 (1 + total tokens) e ∙ to-untouched tokens q)
+        (λ q e. same 7 (1 + bodyBytes tokens) e ∙ to-untouched tokens q)
         (λ _ e. absurd (other _ _ e))
 
     pub answer-refused : here ≡ build book t → there ≡ sweepImage book image t ends numbers
@@ -159,7 +160,7 @@ module _ {book : List ℕ} (image : List ℕ) {t u : Tables} {sizes : Sizes} (b 
   built-given =
       let fit = accepted-fit book ts (b .read) in
       let r = built-represents ts fit u (subst (λ u. Lent u (built ts)) (sym (b .filled)) (written-lent (built ts) t)) in
-      let n : sizes .nodes ≡ length (nodes ts) = ap (λ s. s .nodes) (b .sized) in
+      let n : sizes .nodes ≡ length (nodes (allWords ts)) = ap (λ s. s .nodes) (b .sized) in
       record {
         parent = u .parent;
         read = record { read = b .read; short = ap (λ s. s .shortest) (b .sized) };

@@ -9,6 +9,7 @@ use borrow.Author.Tests.{eqb-true, ltb-true}
 use lib.Dec.{eqb, ltb}
 use lib.ListN.{length, take, drop, getD, set, length-set}
 use lib.Seq.{getD-set-same, getD-set-other}
+use Rattle.rules.specs.Words.{allWords}
 use Rattle.rules.specs.Tokens.{ofTokens, shiftOf, shortestOf}
 use Rattle.rules.specs.Laws.Tests.{split, and-l, and-r}
 use Rattle.rules.specs.Laws.Limit.Count.{loose}
@@ -20,7 +21,7 @@ use Rattle.image.specs.declared.spans.Spans.{Spans}
 use Rattle.image.specs.Rounds.{Reached, lowest}
 use Rattle.book.specs.Book.{maxImage}
 use Rattle.image.specs.Spans.{inUse, renewed, Fits}
-use Rattle.image.specs.Rule5.{tokensOf, Accepted, closingOf, nameOf, BySkip}
+use Rattle.image.specs.Rule5.{tokensOf, wordsIn, Accepted, closingOf, nameOf, BySkip}
 use Rattle.image.specs.Sweeping.{Standing, Known, lowestOf, Learns, endAt, shiftAt, ByPair, Sees, Ended}
 use Rattle.image.specs.Laws.Roots.{first-shut, down-closes}
 use Rattle.image.specs.Laws.Spans.{none-renewed, none-loose, loose-upto}
@@ -103,12 +104,12 @@ module _ {book image : List ℕ} {S : ℕ} {at : Standing} {arrival : Arrival} (
   arrives-named = part-is ∙ sym (a .named)
 
   -- Its shift.
-  module _ (by : ℕ) (e : by ≡ shiftOf (tokensOf book) S part (closingOf (arrival .stop))) where
+  module _ (by : ℕ) (e : by ≡ shiftOf (wordsIn book) S part (closingOf (arrival .stop))) where
     by-is : by ≡ shiftAt book image b
     by-is =
         let ts = tokensOf book in
-        e ∙ ap (λ u. shiftOf ts S u (closingOf (arrival .stop))) part-is ∙ ap (shiftOf ts S (r .node)) (a .closing)
-        ∙ ap (λ n. shiftOf ts n (r .node) (r .closing)) (a .read .short)
+        e ∙ ap (λ u. shiftOf (allWords ts) S u (closingOf (arrival .stop))) part-is ∙ ap (shiftOf (allWords ts) S (r .node)) (a .closing)
+        ∙ ap (λ n. shiftOf (allWords ts) n (r .node) (r .closing)) (a .read .short)
 
     pub by-near : by ≤ 1024
     by-near = rw by-is (raised book image at (a .known .found) (a .known .stands) (a .place) .1)

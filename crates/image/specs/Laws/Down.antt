@@ -7,7 +7,8 @@ use mathlib.Core.List.{List, [], _∷_, _++_, map}
 use mathlib.Core.Option.{Option, some, none}
 use lib.Dec.{eqb}
 use lib.ListN.{length, getD, drop}
-use Rattle.rules.specs.Lists.{anyOf, numberFrom}
+use Rattle.rules.specs.Lists.{anyOf}
+use Rattle.rules.specs.Words.{numberOf, allWords}
 use Rattle.rules.specs.Rules.{Tree, Event, hitAt, hitsUp}
 use Rattle.rules.specs.Tokens.{ofTokens, ends, grown}
 use Rattle.rules.specs.Sweep.{hits}
@@ -43,9 +44,9 @@ module _ (tokens : List (List ℕ)) (S b : ℕ) where
   tree = ofTokens tokens S
 
   -- an ending grows by the byte
-  grown-is : (u : List ℕ) (x : ℕ) (w : List ℕ) → grown tokens u x ≡ some w → x ∷ u ≡ w
+  grown-is : (u : List ℕ) (x : ℕ) (w : List ℕ) → grown (allWords tokens) u x ≡ some w → x ∷ u ≡ w
   grown-is u x w =
-      decide (λ o. o ≡ some w → x ∷ u ≡ w) (anyOf (ends (x ∷ u)) tokens) _ _
+      decide (λ o. o ≡ some w → x ∷ u ≡ w) (anyOf (ends (x ∷ u)) (allWords tokens)) _ _
       (λ _ e. ap (λ o. elim o [ none ↦ [] | some w ↦ w ]) e)
       (λ _ e. absurd (let z : _≡_ {A = ℕ} 0 1 = cc in omega arith))
 
@@ -57,14 +58,14 @@ module _ (tokens : List (List ℕ)) (S b : ℕ) where
   hits-above x u zero h = refl
   hits-above x u (suc k) h =
       let z : suc (length u) - suc k ≡ suc (length u - suc k) = omega arith in
-      ap (λ n. hitAt b (numberFrom 1 (drop n (x ∷ u)) tokens) ++ hitsUp tree b (x ∷ u) k) z
-      ∙ ap (λ es. hitAt b (numberFrom 1 (drop (length u - suc k) u) tokens) ++ es) (hits-above x u k (omega arith))
+      ap (λ n. hitAt b (numberOf tokens (drop n (x ∷ u))) ++ hitsUp tree b (x ∷ u) k) z
+      ∙ ap (λ es. hitAt b (numberOf tokens (drop (length u - suc k) u)) ++ es) (hits-above x u k (omega arith))
 
   -- Its own, then those of the ending without its first byte.
   hits-grown : (x : ℕ) (u : List ℕ) → hitsAt (x ∷ u) ≡ hitAt b (tree .token (x ∷ u)) ++ hitsAt u
   hits-grown x u =
       let z : suc (length u) - suc (length u) ≡ 0 = omega arith in
-      ap (λ n. hitAt b (numberFrom 1 (drop n (x ∷ u)) tokens) ++ hitsUp tree b (x ∷ u) (length u)) z
+      ap (λ n. hitAt b (numberOf tokens (drop n (x ∷ u))) ++ hitsUp tree b (x ∷ u) (length u)) z
       ∙ ap (λ es. hitAt b (tree .token (x ∷ u)) ++ es) (hits-above x u (length u) (omega arith))
 
   -- They are the tokens met.

@@ -10,6 +10,7 @@ use borrow.Author.Tests.{eqb-false, le-ltb}
 use lib.Dec.{eqb}
 use lib.ListN.{length, getD, take, drop}
 use Rattle.rules.specs.Rules.{Tree, Stretch, Config, Event, Step, goes, hitsUp, recall, ended, shiftedBy, endRound, taken, look, next, follow, trace}
+use Rattle.rules.specs.Words.{allWords}
 use Rattle.rules.specs.Tokens.{ofTokens, shiftOf}
 use Rattle.rules.specs.Sweep.{bytesOf, places, hits}
 use Rattle.rules.specs.Laws.Setting.{Setting}
@@ -18,7 +19,7 @@ use Rattle.rules.specs.Laws.Limit.{ended-laid}
 use Rattle.rules.specs.Laws.Limit.Span.{Spans, kept-spans}
 use Rattle.rules.specs.Laws.Limit.Count.{loose}
 use Rattle.rules.specs.Laws.Limit.Ends.{stepsLeft, steps-enough, less-end}
-use Rattle.rules.specs.Laws.Exact.Reads.{byteOf, reads→stands}
+use Rattle.rules.specs.Laws.Exact.Reads.{byteOf, reads-under}
 use Rattle.rules.specs.Laws.Exact.Shift.{Known, shift-ge}
 use Rattle.rules.specs.Laws.Exact.Configs.{Inv, end-inv, recall-known}
 use Rattle.rules.specs.Laws.Exact.Walk.{NextGood, next-good}
@@ -50,7 +51,7 @@ module _ (tokens : List (List ℕ)) (S D : ℕ) (setting : Setting tokens S D) (
   ending b = reached (ofTokens tokens S) image b
 
   abbrev pub raise : ℕ → ℕ
-  raise b = shiftOf tokens S (ending b .node) (ending b .closing)
+  raise b = shiftOf (allWords tokens) S (ending b .node) (ending b .closing)
 
   abbrev pub afterwards : ℕ → List (Stretch (List ℕ)) → List (Stretch (List ℕ))
   afterwards b ss =
@@ -182,15 +183,14 @@ module _ (tokens : List (List ℕ)) (S D : ℕ) (setting : Setting tokens S D) (
 
     -- The node where the round ends has the image's bytes.
     end-bytes : (v : List ℕ) (d : ℕ) → Inv (byteOf image) D (here v d) → v ≡ take d (drop (b - d) image)
-    end-bytes v d i =
-        rw (i .deep) (sym (reads→stands (v ∷ []) image b 0 (omega arith) (omega (arith, i .deep, i .inside)) h (i .reads) .bytes))
+    end-bytes v d i = reads-under image b d (i .inside) h v (sym (i .deep)) (i .reads)
 
     -- What holds at the start of a round holds again after it.
     over-starts : (r : Reached (List ℕ)) (left : ℕ) → Inv (byteOf image) D (here (r .node) (r .depth))
         → stepsLeft (length image) D b (r .depth) ≤ left → Starts (over r .boundary) (over r .stretches) left
     over-starts r left i l =
         let c = here (r .node) (r .depth) in
-        let up : b < over r .boundary = omega (arith, shift-ge tokens S (r .node) (r .closing)) in
+        let up : b < over r .boundary = omega (arith, shift-ge (allWords tokens) S (r .node) (r .closing)) in
         record {
           inv = end-inv (byteOf image) tokens S D c (r .closing) i;
           spans = kept-spans D b (over r .boundary) 0 (ended tree c) up

@@ -6,6 +6,7 @@ use mathlib.Core.Path.{_≡_, refl, ap, sym, subst, _∙_}
 use mathlib.Core.List.{List, [], _++_, append-nil, append-assoc}
 use lib.ListN.{length, take, drop, length-append}
 use Rattle.rules.specs.Rules.{Stretch}
+use Rattle.rules.specs.Words.{allWords}
 use Rattle.rules.specs.Tokens.{ofTokens, shiftOf, shortestOf, longestOf}
 use Rattle.rules.specs.Sweep.{happens}
 use Rattle.rules.specs.Laws.Limit.Count.{loose}
@@ -112,7 +113,7 @@ module _ (book image : List ℕ) where
       r = reached (ofTokens ts S) image b
 
       abbrev by : ℕ
-      by = shiftOf ts S (r .node) (r .closing)
+      by = shiftOf (allWords ts) S (r .node) (r .closing)
 
       turn : Round ts S D (accepted-setting book ts (s .read)) image b (s .stretches) (s .fuel) (s .count)
       turn = round ts S D (accepted-setting book ts (s .read)) image b (s .stretches) (s .fuel) (s .count) (s .starts) h
@@ -135,8 +136,8 @@ module _ (book image : List ℕ) where
 
       pub raised : (1 ≤ by) × (by ≤ maxBody)
       raised = (
-        shift-ge ts S (r .node) (r .closing),
-        omega (arith, short-upto (s .read), shift-upto ts S (accepted-setting book ts (s .read) .positive) (r .node) (r .closing)),
+        shift-ge (allWords ts) S (r .node) (r .closing),
+        omega (arith, short-upto (s .read), shift-upto (allWords ts) S (accepted-setting book ts (s .read) .positive) (r .node) (r .closing)),
       )
 
       -- How deep it goes, and what it matches.

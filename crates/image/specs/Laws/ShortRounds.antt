@@ -5,6 +5,7 @@ use mathlib.Core.Path.{_≡_, refl, ap, sym, subst, _∙_}
 use mathlib.Core.List.{List, [], _++_, map, append-nil}
 use mathlib.Core.Option.{some}
 use lib.ListN.{length, getD}
+use Rattle.rules.specs.Words.{allWords}
 use Rattle.rules.specs.Tokens.{ofTokens, shiftOf, shortestOf}
 use Rattle.rules.specs.Laws.Limit.Count.{loose}
 use Rattle.book.specs.Laws.Accepted.{accepted-fit, accepted-some}
@@ -40,7 +41,7 @@ module _ (book image : List ℕ) (at : Standing) (found : List (ℕ × ℕ)) (s 
   r = reached (ofTokens ts S) image b
 
   abbrev by : ℕ
-  by = shiftOf ts S (r .node) (r .closing)
+  by = shiftOf (allWords ts) S (r .node) (r .closing)
 
   module _ (bare : at .spans .used ≡ 0) where
     -- Where nothing is remembered, a round that ends soon and meets no token fetches all it looks at, and leaves nothing.
@@ -62,7 +63,7 @@ module _ (book image : List ℕ) (at : Standing) (found : List (ℕ × ℕ)) (s 
           first-ends ts S image b (accepted-fit book ts (s .read)) (accepted-some book ts (s .read)) (s .positive) x is (right .right x byte some-shift .0)
 
       by-is : by ≡ getD skip x 0
-      by-is = ap (λ r. shiftOf ts S (r .node) (r .closing)) ends-so ∙ sym (right .right x byte some-shift .1)
+      by-is = ap (λ r. shiftOf (allWords ts) S (r .node) (r .closing)) ends-so ∙ sym (right .right x byte some-shift .1)
 
       pub skims : Stands book image (onAt at (b + getD skip x 0) 1) found
       skims =
@@ -89,7 +90,7 @@ module _ (book image : List ℕ) (at : Standing) (found : List (ℕ × ℕ)) (s 
 
       pub skims-two : Stands book image (onAt at (b + n) 2) found
       skims-two =
-          let e : by ≡ n = ap (λ r. shiftOf ts S (r .node) (r .closing)) alike ∙ sym (seen .shift) in
+          let e : by ≡ n = ap (λ r. shiftOf (allWords ts) S (r .node) (r .closing)) alike ∙ sym (seen .shift) in
           subst (λ n. Stands book image (onAt at (b + n) 2) found) e
           (passes 1 y (ap (λ r. r .depth) alike ∙ seen .deep) (ap (λ r. r .closing) alike ∙ seen .closing)
           (ap (λ r. r .tokens) alike ∙ seen .unmet) (omega arith) (omega arith))

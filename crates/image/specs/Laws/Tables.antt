@@ -8,6 +8,7 @@ use mathlib.Core.Option.{Option, some, none}
 use lib.Dec.{eqb, ltb}
 use lib.ListN.{length, getD}
 use Rattle.rules.specs.Lists.{anyOf}
+use Rattle.rules.specs.Words.{allWords}
 use Rattle.rules.specs.Rules.{Tree}
 use Rattle.rules.specs.Tokens.{ofTokens, ends}
 use Rattle.book.specs.Laws.Accepted.{Fit}
@@ -40,7 +41,7 @@ module _ (tokens : List (List ℕ)) (S : ℕ) (t : Tables) (count : ℕ) (rep : 
 
   -- What the code asks of the tables.
   module _ (fit : Fit tokens) where
-    grows : 1 ≤ length tokens → anyOf (λ u. ltb (length (ending t 0)) (length u) && ends (ending t 0) u) tokens ≡ true
+    grows : 1 ≤ length tokens → anyOf (λ u. ltb (length (ending t 0)) (length u) && ends (ending t 0) u) (allWords tokens) ≡ true
     grows some-token = rw (rep .root) (root-grows tokens fit some-token)
 
     below-count : (w : ℕ) (o : Option ℕ) (p : Option (List ℕ)) → Stand t count o p → o ≡ some w → w < count

@@ -1,4 +1,5 @@
--- At most 68 tokens end at one place: there are 68 kinds, and two tokens of one kind that end at one place are the same.
+-- At most 68 tokens end at one place: there are 68 kinds, and two tokens of one kind that end at one place, in whichever
+-- order, are the same.
 use Prim.Native.Nat.{ℕ, zero, suc, _+_, _-_, _*_, _≤_, _<_}
 use native.Mathlib.Omega.{arith}
 use mathlib.Core.Path.{_≡_, refl, ap, sym, _∙_}
@@ -11,7 +12,7 @@ use Rattle.rules.specs.Sweep.{Stands, Once, Occurrences, hitsOf}
 use Rattle.rules.specs.Laws.Tests.{decide}
 use Rattle.rules.specs.Laws.All.{All, all-append}
 use Rattle.rules.specs.Laws.Exact.{happens-exact}
-use Rattle.rules.specs.Laws.Exact.Reads.{byteOf, reads-eq, stands→reads}
+use Rattle.rules.specs.Laws.Exact.Events.{stands-same}
 use Rattle.rules.specs.Laws.Members.{select-out}
 use Rattle.book.specs.Book.{readBook, accepted, bodyLength, kindAt, bodyAt, sizeAt}
 use Rattle.book.specs.Laws.Taken.{Taken, opened-length, accepted-keeps}
@@ -117,9 +118,7 @@ module _ (book : List ℕ) (tokens : List (List ℕ)) (read : readBook book ≡ 
         let e : g .0 ≡ h .0 = omega arith in
         let k : getD ks (g .1 - 1) 0 ≡ getD ks (h .1 - 1) 0 = omega arith in
         let l : length (getD tokens (g .1 - 1) []) ≡ length (getD tokens (h .1 - 1) []) = a .kind ∙ ap bodyLength k ∙ sym (b .kind) in
-        let r = rw e at (stands→reads tokens image (g .0) (g .1 - 1) (a .stands)) in
-        let t = reads-eq (byteOf image) _ _ (h .0) r (stands→reads tokens image (h .0) (h .1 - 1) (b .stands)) l in
-        let i = accepted-setting book tokens read .distinct (g .1 - 1) (h .1 - 1) (a .stands .numbered) (b .stands .numbered) t in
+        let i = stands-same tokens image (accepted-setting book tokens read) (h .0) (g .1 - 1) (h .1 - 1) (rw e at (a .stands)) (b .stands) l in
         pair g h e (omega (arith, a .numbered, b .numbered))
 
     apart : (l : List (ℕ × ℕ)) → Once l → ((h : ℕ × ℕ) → List·Memᴰ h l → Keyed h) → Apart (map key l)

@@ -11,7 +11,7 @@ use Rattle.rules.specs.Tokens.{longestOf, shortestOf}
 use Rattle.rules.specs.Sweep.{Stands, further, hitsOf}
 use Rattle.rules.specs.Laws.Setting.{Setting}
 use Rattle.rules.specs.Laws.Exact.{happens-exact}
-use Rattle.rules.specs.Laws.Exact.Reads.{byteOf, stands→reads, reads→stands}
+use Rattle.rules.specs.Laws.Exact.Reads.{byteOf, standing, stands-long, stands→reads, reads→stands}
 use Rattle.rules.specs.Laws.Members.{select-in, select-out}
 use Rattle.rules.specs.Laws.Ordered.{ordered-moved, ordered-select, same-members}
 use Rattle.listing.specs.Parts.{between, past, upTo}
@@ -32,21 +32,23 @@ module _ (tokens : List (List ℕ)) (image : List ℕ) (from to : ℕ) where
   -- A token that stands in the part stands in the image, and the other way round if it is not cut.
   stands-out : (e i : ℕ) → 1 ≤ e → Stands tokens piece e i → Stands tokens image (from + e) i × (from + e ≤ to)
   stands-out e i h s =
-      let l = length-piece in
-      let t = getD tokens i [] in (
+      let l = length-piece in (
         reads→stands tokens image (from + e) i (s .numbered) (omega (arith, s .fits)) (omega (arith, s .inside, l .0, l .1))
+            (standing tokens piece e i) (s .bytes)
             (λ k k<.
-            let z : from + (e - 1 - k) ≡ from + e - 1 - k = omega (arith, s .fits) in
-            stands→reads tokens piece e i s k k< ∙ byte (e - 1 - k) (omega (arith, s .fits, s .inside, l .0)) ∙ ap (byteOf image) z),
+            let z : from + (e - 1 - k) ≡ from + e - 1 - k = omega (arith, s .fits, stands-long tokens piece e i s) in
+            stands→reads tokens piece e i s k k<
+            ∙ byte (e - 1 - k) (omega (arith, s .fits, s .inside, l .0)) ∙ ap (byteOf image) z),
         omega (arith, s .inside, l .0),
       )
 
   stands-in : (e i : ℕ) → length (getD tokens i []) ≤ e → from + e ≤ to → Stands tokens image (from + e) i → Stands tokens piece e i
   stands-in e i short h s =
       reads→stands tokens piece e i (s .numbered) short (simp (length-take, length-drop) (omega (arith, s .inside)))
+      (standing tokens image (from + e) i) (s .bytes)
       (λ k k<.
-      let z : from + (e - 1 - k) ≡ from + e - 1 - k = omega arith in
-      stands→reads tokens image (from + e) i s k k< ∙ ap (byteOf image) (sym z) ∙ sym (byte (e - 1 - k) (omega arith)))
+      let z : from + (e - 1 - k) ≡ from + e - 1 - k = omega (arith, stands-long tokens image (from + e) i s) in
+      stands→reads tokens image (from + e) i s k k< ∙ ap (byteOf image) (sym z) ∙ sym (byte (e - 1 - k) (omega (arith, stands-long tokens image (from + e) i s))))
 
 module _ (tokens : List (List ℕ)) (setting : Setting tokens (shortestOf tokens) (longestOf tokens)) (image : List ℕ) (from at to : ℕ)
     (reach : from ≤ at - (longestOf tokens - 1)) (on : at ≤ to) where

@@ -5,7 +5,7 @@ use mathlib.Core.Bool.{false}
 use mathlib.Core.List.{List}
 use borrow.Author.Tests.{le-ltb}
 use lib.ListN.{length}
-use Rattle.rules.specs.Tokens.{total}
+use Rattle.rules.specs.Tokens.{bodyBytes}
 use Rattle.book.specs.Book.{refused, maxTokens, maxBodies, readBook, Totals as Sums, summary, bodiesIn}
 use Rattle.book.specs.Answers.{totalled}
 use Rattle.book.specs.declared.Totals.{Totals}
@@ -23,7 +23,7 @@ module _ {book : List ℕ} {totals : Sums} (s : Summed book totals) where
   bounded : tooLarge (bodiesIn book) ≡ false
   bounded =
       let f = accepted-fit book (s .tokens) (s .read) in
-      rw bodies-are (cc (le-ltb maxTokens (length (s .tokens)) (f .count), le-ltb maxBodies (total (s .tokens)) (f .bodies)))
+      rw bodies-are (cc (le-ltb maxTokens (length (s .tokens)) (f .count), le-ltb maxBodies (bodyBytes (s .tokens)) (f .bodies)))
 
 pub books : {first second : List ℕ} (totals : Totals) {others : Sums} → Summed first (totalled totals) → Summed second others
     → Books first second totals

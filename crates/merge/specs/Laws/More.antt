@@ -1,16 +1,14 @@
--- One token of the second book more: the merged tokens, their number and bytes, and their records.
+-- One token of the second book more: the merged tokens, and their records.
 use Prim.Native.Nat.{ℕ, _+_, _<_}
 use native.Mathlib.Numerals.{add-one}
 use mathlib.Core.Path.{_≡_, refl, ap, _∙_}
 use mathlib.Core.Bool.{Bool, true, false}
 use mathlib.Core.List.{List, [], _∷_, _++_, append-assoc, append-nil}
-use lib.ListN.{length, getD, take, length-append}
+use lib.ListN.{length, getD, take}
 use lib.Seq.{take-suc}
 use Rattle.rules.specs.Lists.{select}
-use Rattle.rules.specs.Tokens.{total}
 use Rattle.rules.specs.Laws.All.{select-append}
 use Rattle.book.specs.Bytes.{kindOf, recordsOf}
-use Rattle.book.specs.Laws.Accepted.{total-append}
 use Rattle.book.specs.Laws.Bytes.{records-append}
 use Rattle.merge.specs.Merge.{lacks, merged}
 use Rattle.merge.specs.Steps.{ifWanted}
@@ -24,7 +22,7 @@ module _ (tokens others : List (List ℕ)) (i : ℕ) (h : i < length others) whe
   abbrev pub new : Bool
   new = lacks tokens (getD others i [])
 
-  merged-more : merged tokens (take (i + 1) others) ≡ merged tokens (take i others) ++ ifNew new (getD others i [])
+  pub merged-more : merged tokens (take (i + 1) others) ≡ merged tokens (take i others) ++ ifNew new (getD others i [])
   merged-more =
       let t = getD others i [] in
       let s : select (lacks tokens) (t ∷ []) ≡ ifNew (lacks tokens t) t = go (lacks tokens t) t in
@@ -33,12 +31,6 @@ module _ (tokens others : List (List ℕ)) (i : ℕ) (h : i < length others) whe
       go : (b : Bool) (t : List ℕ) → _≡_ {A = List (List ℕ)} (elim b [ true ↦ t ∷ [] | false ↦ [] ]) (ifNew b t)
       go true t = refl
       go false t = refl
-
-  pub count-more : length (merged tokens (take (i + 1) others)) ≡ length (merged tokens (take i others)) + length (ifNew new (getD others i []))
-  count-more = rw merged-more (length-append (merged tokens (take i others)) (ifNew new (getD others i [])))
-
-  pub total-more : total (merged tokens (take (i + 1) others)) ≡ total (merged tokens (take i others)) + total (ifNew new (getD others i []))
-  total-more = rw merged-more (total-append (merged tokens (take i others)) (ifNew new (getD others i [])))
 
   pub records-more : recordsOf (merged tokens (take (i + 1) others))
       ≡ recordsOf (merged tokens (take i others)) ++ ifWanted new (kindOf (length (getD others i [])) ∷ getD others i [])

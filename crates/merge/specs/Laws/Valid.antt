@@ -1,21 +1,23 @@
--- The merged tokens are those of a book: each has a kind's length, none stands twice, and they are within the limits. So what merging writes is
--- read as them.
+-- The merged tokens are those of a book: each has a kind's length, none is a word of another, and they are within the limits. So what merging
+-- writes is read as them.
 use Prim.Native.Nat.{ℕ, zero, suc, _+_, _-_, _≤_, _<_}
 use native.Mathlib.Omega.{arith}
-use mathlib.Core.Path.{_≡_, refl, ap}
-use mathlib.Core.Bool.{false}
-use mathlib.Core.List.{List, [], _∷_, List·Memᴰ}
+use mathlib.Core.Path.{_≡_, refl, ap, sym, _∙_}
+use mathlib.Core.Bool.{true, false}
+use mathlib.Core.Logic.{_⊎_, inl, inr}
+use mathlib.Core.List.{List, [], _∷_, List·Memᴰ, List·Memᴰ·append-cases}
 use borrow.Author.Tests.{ltb-false, not-true}
 use lib.Dec.{ltb}
 use lib.ListN.{length, getD, take, drop, length-append}
 use lib.Seq.{take-all, take-append-seam}
-use Rattle.rules.specs.Lists.{select, same, anyOf, over}
-use Rattle.rules.specs.Tokens.{total}
+use Rattle.rules.specs.Lists.{select, anyOf, over}
+use Rattle.rules.specs.Words.{isWord}
+use Rattle.rules.specs.Tokens.{bodyBytes}
 use Rattle.rules.specs.Sweep.{Once}
 use Rattle.rules.specs.Laws.Tests.{decide, clash, false-test, or-nl, or-nr, anyOf-in, least-le}
 use Rattle.rules.specs.Laws.All.{All, all-append, all-select}
-use Rattle.rules.specs.Laws.Endings.{same-refl}
-use Rattle.rules.specs.Laws.Members.{select-out, number-of, distinct-once, once-distinct, once-select, once-append}
+use Rattle.rules.specs.Laws.Words.{own-word, word-sym}
+use Rattle.rules.specs.Laws.Members.{select-out, mem-at, number-of, distinct-once, once-distinct, once-select, once-append}
 use Rattle.book.specs.Book.{Reading, accepted, refused, maxTokens, maxBodies, maxBody, readBook}
 use Rattle.book.specs.Bytes.{bookOf}
 use Rattle.book.specs.Laws.Taken.{bodyLength-range}
@@ -24,10 +26,10 @@ use Rattle.book.specs.Laws.Bytes.{Kinded, accepted-kinded, read-bytes}
 use Rattle.merge.specs.Merge.{lacks, merged, tooLarge, fitting, overLimits, tooShort, Answer, wrote, firstBad, secondBad, limitsPassed, noRoom, verdict, Merging, join, merge}
 
 -- so many tokens, and body bytes, are within the limits
-pub within : (tokens : List (List ℕ)) → tooLarge tokens ≡ false → (length tokens ≤ maxTokens) × (total tokens ≤ maxBodies)
+pub within : (tokens : List (List ℕ)) → tooLarge tokens ≡ false → (length tokens ≤ maxTokens) × (bodyBytes tokens ≤ maxBodies)
 within tokens f = (
   ltb-false maxTokens (length tokens) (or-nl _ _ f),
-  ltb-false maxBodies (total tokens) (or-nr (ltb maxTokens (length tokens)) _ f),
+  ltb-false maxBodies (bodyBytes tokens) (or-nr (ltb maxTokens (length tokens)) _ f),
 )
 
 all-at : (P : List ℕ → Type 0) (l : List (List ℕ)) → All P l → (i : ℕ) → i < length l → P (getD l i [])
@@ -38,30 +40,58 @@ all-at P (t ∷ l) a (suc i) h = all-at P l (a .1) i (omega arith)
 kinded-range : (t : List ℕ) → Kinded t → (1 ≤ length t) × (length t ≤ maxBody)
 kinded-range t k = rw (k .size) (bodyLength-range (k .kind) (k .some) (k .known))
 
+-- No token of a book is a word of another: each stands one time, and where one is a word of one, the two are the same.
+module _ (ts : List (List ℕ)) (f : Fit ts) where
+  fit-once : Once ts
+  fit-once = distinct-once [] ts (λ i j h k e. f .distinct i j h k (rw e (own-word (getD ts j []))))
+
+  fit-alone : {t u : List ℕ} → List·Memᴰ t ts → List·Memᴰ u ts → isWord t u ≡ true → t ≡ u
+  fit-alone m k e =
+      let r = number-of [] ts m in
+      let q = number-of [] ts k in
+      let z = f .distinct (r .0) (q .0) (r .1) (q .1) (rw (r .2, q .2) e) in
+      sym (r .2) ∙ ap (λ i. getD ts i []) z ∙ q .2
+
 module _ (first second : List ℕ) (tokens others : List (List ℕ)) (one : readBook first ≡ accepted tokens) (two : readBook second ≡ accepted others) where
+  -- what the first lacks of the second
+  abbrev late : List (List ℕ)
+  late = select (lacks tokens) others
+
   kinded : All Kinded (merged tokens others)
   kinded =
-      all-append Kinded tokens (select (lacks tokens) others) (accepted-kinded first tokens one)
+      all-append Kinded tokens late (accepted-kinded first tokens one)
       (all-select Kinded (lacks tokens) others (accepted-kinded second others two))
+
+  apart : {t u : List ℕ} → List·Memᴰ t tokens → List·Memᴰ u late → isWord u t ≡ true → ⊥
+  apart {u = u} m k e =
+      let r = number-of [] tokens m in
+      clash (anyOf (isWord u) tokens) (anyOf-in (isWord u) tokens [] (r .0) (r .1) (rw (r .2) e))
+      (not-true _ (select-out (lacks tokens) u others k .1))
 
   once : Once (merged tokens others)
   once =
-      once-append tokens (select (lacks tokens) others) (distinct-once [] tokens (accepted-fit first tokens one .distinct))
-      (once-select (lacks tokens) others (distinct-once [] others (accepted-fit second others two .distinct))) apart
+      once-append tokens late (fit-once tokens (accepted-fit first tokens one))
+      (once-select (lacks tokens) others (fit-once others (accepted-fit second others two))) (λ t m k. apart m k (own-word t))
+
+  alone : (t u : List ℕ) → List·Memᴰ t (merged tokens others) → List·Memᴰ u (merged tokens others) → isWord t u ≡ true → t ≡ u
+  alone t u m k e = go (List·Memᴰ·append-cases tokens m) (List·Memᴰ·append-cases tokens k)
     where
-      apart : (t : List ℕ) → List·Memᴰ t tokens → List·Memᴰ t (select (lacks tokens) others) → ⊥
-      apart t m k =
-          let r = number-of [] tokens m in
-          clash (anyOf (same t) tokens) (anyOf-in (same t) tokens [] (r .0) (r .1) (rw (r .2) (same-refl t)))
-          (not-true _ (select-out (lacks tokens) t others k .1))
+      go : List·Memᴰ t tokens ⊎ List·Memᴰ t late → List·Memᴰ u tokens ⊎ List·Memᴰ u late → t ≡ u
+      go (inl a) (inl b) = fit-alone tokens (accepted-fit first tokens one) a b e
+      go (inl a) (inr b) = absurd (apart a b (word-sym t u e))
+      go (inr a) (inl b) = absurd (apart b a e)
+      go (inr a) (inr b) =
+          fit-alone others (accepted-fit second others two) (select-out (lacks tokens) t others a .0) (select-out (lacks tokens) u others b .0) e
 
   fit : tooLarge (merged tokens others) ≡ false → Fit (merged tokens others)
-  fit f = record {
-    each = λ i h. kinded-range _ (all-at Kinded (merged tokens others) kinded i h);
-    count = within (merged tokens others) f .0;
-    bodies = within (merged tokens others) f .1;
-    distinct = once-distinct [] (merged tokens others) once;
-  }
+  fit f =
+      let l = merged tokens others in
+      record {
+        each = λ i h. kinded-range _ (all-at Kinded l kinded i h);
+        count = within l f .0;
+        bodies = within l f .1;
+        distinct = λ i j h k e. once-distinct [] l once i j h k (alone _ _ (mem-at [] l i h) (mem-at [] l j k) e);
+      }
 
   merged-read : tooLarge (merged tokens others) ≡ false → readBook (bookOf (merged tokens others)) ≡ accepted (merged tokens others)
   merged-read f =

@@ -5,14 +5,16 @@ use native.Mathlib.Numerals.{add-one}
 use mathlib.Core.Path.{_≡_, refl}
 use mathlib.Core.List.{List, [], _∷_}
 use mathlib.Core.Option.{some, none}
-use borrow.Author.Tests.{leb-true}
 use lib.ListN.{length, getD}
 use Rattle.rules.specs.Rules.{Event, fetched, Config, Next, finished, wants, goes, fresh, next, follow, trace}
 use Rattle.rules.specs.Lists.{anyOf}
+use Rattle.rules.specs.Words.{allWords}
 use Rattle.rules.specs.Tokens.{ends, ofTokens, shortestOf, longestOf}
 use Rattle.rules.specs.Sweep.{happens, hits, Stands, Once, Ordered, Occurrences, bytesOf}
 use Rattle.rules.specs.Laws.Setting.{Setting}
-use Rattle.rules.specs.Laws.Tests.{decide, and-l, anyOf-out}
+use Rattle.rules.specs.Laws.Tests.{decide}
+use Rattle.rules.specs.Laws.Endings.{ends-shorter}
+use Rattle.rules.specs.Laws.Words.{word-length, word-out}
 use Rattle.rules.specs.Laws.Limit.Ends.{stepsLeft, steps-enough, Whole, Finite, sweep-ends}
 use Rattle.rules.specs.Laws.Exact.Shift.{shift-ge}
 use Rattle.rules.specs.Laws.Exact.Reads.{byteOf}
@@ -31,14 +33,14 @@ pub tokens-finite : (tokens : List (List ℕ)) (S D : ℕ) → Setting tokens S 
 tokens-finite tokens S D setting = record {
   bare = refl;
   grows = λ u x w.
-      decide (λ o. o ≡ some w → (length w ≡ suc (length u)) × (length w ≤ D)) (anyOf (ends (x ∷ u)) tokens) (some (x ∷ u)) none
+      decide (λ o. o ≡ some w → (length w ≡ suc (length u)) × (length w ≤ D)) (anyOf (ends (x ∷ u)) (allWords tokens)) (some (x ∷ u)) none
       (λ t e.
       let z : w ≡ x ∷ u = cc in
-      let r = anyOf-out (ends (x ∷ u)) tokens [] t in
-      let l = leb-true (suc (length u)) (length (getD tokens (r .0) [])) (and-l _ _ (r .2)) in
-      rw z (refl, omega (arith, setting .longest (r .0) (r .1))))
+      let r = word-out (ends (x ∷ u)) tokens t in
+      let l = word-length (r .word) (getD tokens (r .number) []) (r .of) in
+      rw z (refl, omega (arith, ends-shorter (x ∷ u) (r .word) (r .passes), setting .longest (r .number) (r .inside))))
       (λ _ e. absurd (let z : _≡_ {A = ℕ} 0 1 = cc in omega arith));
-  moves = shift-ge tokens S;
+  moves = shift-ge (allWords tokens) S;
 }
 
 -- The events are those of a whole sweep whose hits are the occurrences.

@@ -13,7 +13,7 @@ use Rattle.rules.specs.Lists.{every, least, over}
 use Rattle.rules.specs.Laws.Tests.{split, least-ge, least-upto}
 use Rattle.rules.specs.Tokens.{fromRight, agrees, byteShift, shiftOf}
 use Rattle.agree.specs.Tests.{nodeTest, byteTest, leastOf}
-use Rattle.agree.specs.Laws.Least.{least-none, least-token}
+use Rattle.agree.specs.Laws.Least.{least-none, least-word}
 use Rattle.tables.specs.Tables.{Tables}
 use Rattle.tables.specs.Walks.{ending, depth, words}
 use Rattle.trie.specs.Answers.{tables}
@@ -110,7 +110,7 @@ node-fails u w best s some e h =
     let l : 1 + (best - 1) ≤ least p 1 (best - 1) = omega (arith, least-ge p 1 (best - 1)) in
     omega (arith, least-fails p (nodeTest u w) fails 1 (best - 1) l, least-upto p 1 (best - 1))
 
--- One token more.
+-- One word more.
 least-more : (p : List ℕ → ℕ → Bool) (t : Tables) (v S : ℕ) → 1 ≤ S → (getD (t .token) v 0 ≡ 0 → ⊥)
     → least (p (ending t v)) 1 (leastOf p (words t v) S - 1) ≡ leastOf p (words t (suc v)) S
 least-more p t v S h d = go (getD (t .token) v 0) d
@@ -118,9 +118,9 @@ least-more p t v S h d = go (getD (t .token) v 0) d
     go : (n : ℕ) → (n ≡ 0 → ⊥) → least (p (ending t v)) 1 (leastOf p (words t v) S - 1)
         ≡ leastOf p (elim n [ zero ↦ words t v | suc i ↦ ending t v ∷ words t v ]) S
     go zero d = absurd (d refl)
-    go (suc i) d = least-token p (words t v) S h (ending t v)
+    go (suc i) d = least-word p (words t v) S h (ending t v)
 
--- The best of the tokens among the nodes below v; `word` is the buffer of the last one.
+-- The best of the words among the nodes below v; `word` is the buffer of the last one.
 pub record Lowered (t : Tables) (u : List ℕ) (x : ℕ) (none : Best) (word : List ℕ) (best : Best) (v : ℕ) : Type 0 where
   pub size : length word ≡ 1024
   pub node : best .node ≡ leastOf (nodeTest u) (words t v) (none .node)

@@ -18,7 +18,7 @@ use Rattle.tables.specs.Tables.{Tables}
 use Rattle.tables.specs.Walks.{childBy, ending, depth, carrier, words, ofTables}
 use Rattle.rules.specs.Laws.Exact.Shift.{shift-upto}
 use Rattle.tables.specs.Laws.Shape.{up, Falling}
-use Rattle.tables.specs.Laws.TokenAdded.{num}
+use Rattle.tables.specs.Laws.WordAdded.{num}
 use Rattle.tables.specs.Laws.Hits.{hits-climb, Carries, carrier-carries}
 use Rattle.scan.specs.Calls.{firstHit}
 use Rattle.scan.specs.Answers.{answers}

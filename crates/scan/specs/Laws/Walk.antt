@@ -9,6 +9,7 @@ use mathlib.Core.Option.{Option, some, none}
 use lib.ListN.{length, length-drop}
 use Rattle.book.specs.Book.{maxBody, maxBodies, maxImage}
 use Rattle.rules.specs.Rules.{Stretch, Config, Event, fetched, recalled, hit, shifted, done, Step, Next, finished, wants, goes, fresh, takeByte, next}
+use Rattle.rules.specs.Words.{allWords}
 use Rattle.rules.specs.Tokens.{grown, ofTokens}
 use Rattle.rules.specs.Laws.Setting.{Setting}
 use Rattle.rules.specs.Laws.Limit.{Fine, FineStep, FineNext, next-fine, fresh-fine}
@@ -33,7 +34,7 @@ tables-alike tokens S D setting t count rep = record {
   root-in = rep .some-node;
   root = rep .root;
   bare = refl;
-  child = λ v x h. both (childBy t count v x) (grown tokens (ending t v) x) (rep .child v x h);
+  child = λ v x h. both (childBy t count v x) (grown (allWords tokens) (ending t v) x) (rep .child v x h);
   grows = λ u x w e. tokens-finite tokens S D setting .grows u x w e .0;
   leaf = rep .leaf;
   token = rep .token;

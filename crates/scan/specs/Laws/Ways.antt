@@ -11,7 +11,7 @@ use Rattle.tables.specs.Walks.{climb, ending, depth, nearest, carrier, words, l
 use Rattle.tables.specs.Laws.Unbroken.{Unbroken}
 use Rattle.scan.specs.Ways.{paths, Rises, Marked, Readable, Spells}
 
--- the tokens with node v's too
+-- the words with node v's too
 abbrev more : ℕ → List ℕ → List (List ℕ) → List (List ℕ)
 more n w ws = elim n [ zero ↦ ws | suc i ↦ w ∷ ws ]
 

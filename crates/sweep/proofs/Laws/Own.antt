@@ -7,7 +7,7 @@ use mathlib.Core.List.{List}
 use borrow.Author.Tests.{le-ltb}
 use lib.Dec.{ltb}
 use lib.ListN.{length}
-use Rattle.rules.specs.Tokens.{total}
+use Rattle.rules.specs.Tokens.{bodyBytes}
 use Rattle.book.specs.Book.{Verdict, accepted, refused, totalsOf, summary, readBook, maxImage}
 use Rattle.book.specs.Answers.{refusalOf, totalled}
 use Rattle.book.specs.declared.Totals.{Totals as Sums}
@@ -35,7 +35,7 @@ module _ (book image : List ℕ) (t : Tables) (ends numbers : List ℕ) (read : 
       })
   swept =
       let f = accepted-fit book (tokensOf book) read in
-      cc (read, le-ltb maxImage (length image) small, le-ltb (shortestTable t) (1 + total (tokensOf book)) (omega (arith, f .bodies)))
+      cc (read, le-ltb maxImage (length image) small, le-ltb (shortestTable t) (1 + bodyBytes (tokensOf book)) (omega (arith, f .bodies)))
 
   pub finds : (r : Answer) (u : Tables) (ends′ numbers′ : List ℕ)
       → record { answer = sweptOf r; fetched = fetchedOf r; tables = u; ends = ends′; tokens = numbers′ } ≡ sweepImage book image t ends numbers

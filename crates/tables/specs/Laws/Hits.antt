@@ -10,7 +10,7 @@ use Rattle.rules.specs.Laws.Tests.{split}
 use Rattle.tables.specs.Tables.{Tables}
 use Rattle.tables.specs.Walks.{depth, lifted, nearest, carrier, ofTables}
 use Rattle.tables.specs.Laws.Shape.{up, Falling, way-step}
-use Rattle.tables.specs.Laws.TokenAdded.{num}
+use Rattle.tables.specs.Laws.WordAdded.{num}
 
 -- The nearest node that carries a token, step by step.
 module _ (t : Tables) (count : ℕ) (f : Falling t count) where

@@ -1,4 +1,4 @@
--- How tables grow by one token: its bytes from the last leftwards, a new node behind its parent's other children for each byte
+-- How tables grow by one word: its bytes from the last leftwards, a new node behind its parent's other children for each byte
 -- that has none yet.
 use Prim.Native.Nat.{ℕ, zero, suc, _+_}
 use mathlib.Core.Bool.{true, false}
@@ -6,6 +6,7 @@ use mathlib.Core.List.{List, [], _∷_, _++_, reverse}
 use mathlib.Core.Option.{some, none}
 use lib.Dec.{eqb}
 use lib.ListN.{length, getD, set}
+use Rattle.rules.specs.Words.{wordsOf}
 use Rattle.tables.specs.Tables.{Tables}
 use Rattle.tables.specs.Walks.{childBy}
 
@@ -36,7 +37,7 @@ withChild t v x =
       node = new;
     }
 
--- The bytes of a token from its last leftwards, from node v on.
+-- The bytes of a word from its last leftwards, from node v on.
 abbrev pub inserted : Tables → ℕ → List ℕ → Grown
 inserted t v [] = record { tables = t; node = v }
 inserted t v (x ∷ xs) =
@@ -45,18 +46,28 @@ inserted t v (x ∷ xs) =
       | none ↦ (let g = withChild t v x in inserted (g .tables) (g .node) xs)
     ]
 
-abbrev pub withToken : Tables → ℕ → List ℕ → Tables
-withToken t i body =
-    let g = inserted t 0 (reverse body) in
+-- A word, whose token has the number i.
+abbrev pub withWord : Tables → ℕ → List ℕ → Tables
+withWord t i word =
+    let g = inserted t 0 (reverse word) in
     let u = g .tables in
     record { parent = u .parent; label = u .label; token = set (u .token) (g .node) i; first = u .first; next = u .next }
+
+-- Words, each with the number that it is given, and the words of one token.
+abbrev pub insertedWords : Tables → (List ℕ → ℕ) → List (List ℕ) → Tables
+insertedWords t number [] = t
+insertedWords t number (w ∷ ws) = insertedWords (withWord t (number w) w) number ws
+
+abbrev pub withWords : Tables → ℕ → List (List ℕ) → Tables
+withWords t i words = insertedWords t (λ _. i) words
 
 abbrev pub rootOnly : Tables
 rootOnly = record { parent = 0 ∷ []; label = 0 ∷ []; token = 0 ∷ []; first = 0 ∷ []; next = 0 ∷ [] }
 
+-- Tokens from number i on, the words of each with its number.
 abbrev pub builtFrom : Tables → ℕ → List (List ℕ) → Tables
 builtFrom t i [] = t
-builtFrom t i (body ∷ rest) = builtFrom (withToken t i body) (i + 1) rest
+builtFrom t i (body ∷ rest) = builtFrom (withWords t i (wordsOf body)) (i + 1) rest
 
 abbrev pub insertedAll : List (List ℕ) → Tables
 insertedAll tokens = builtFrom rootOnly 1 tokens

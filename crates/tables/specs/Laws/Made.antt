@@ -5,13 +5,10 @@ use mathlib.Core.Path.{_≡_, refl}
 use mathlib.Core.Bool.{true, false}
 use mathlib.Core.List.{List}
 use lib.ListN.{length, drop}
-use Rattle.rules.specs.Tokens.{total, shortestOf, longestOf}
+use Rattle.rules.specs.Tokens.{bodyBytes}
 use Rattle.rules.specs.Laws.Tests.{decide}
 use Rattle.book.specs.Book.{Reading, accepted, refused, readBook}
-use Rattle.tables.specs.Tables.{Tables, nodes, built, Lent, written, tooShort, Sizes, Building, build}
-
-abbrev pub sizesOf : List (List ℕ) → Sizes
-sizesOf tokens = record { nodes = length (nodes tokens); shortest = shortestOf tokens; longest = longestOf tokens }
+use Rattle.tables.specs.Tables.{Tables, built, Lent, written, tooShort, Sizes, sizesOf, Building, build}
 
 pub written-lent : (u t : Tables) → Lent (written u t) u
 written-lent u t = record {
@@ -27,7 +24,7 @@ abbrev pub answerTo : Tables → Reading → Building
 answerTo t r = elim r [
   | refused k v ↦ record { answer = refused k v; tables = t }
   | accepted tokens ↦ elim (tooShort t tokens) [
-    | true ↦ record { answer = refused 7 (1 + total tokens); tables = t }
+    | true ↦ record { answer = refused 7 (1 + bodyBytes tokens); tables = t }
     | false ↦ record { answer = accepted (sizesOf tokens); tables = written (built tokens) t }
   ]
 ]
@@ -50,7 +47,7 @@ module _ (book : List ℕ) (lent : Tables) (sizes : Sizes) where
   by-reading : (r : Reading) → readBook book ≡ r → Gives (answerTo lent r)
   by-reading (refused k v) e = refuses k v
   by-reading (accepted tokens) e =
-      decide Gives (tooShort lent tokens) _ _ (λ _. refuses 7 (1 + total tokens))
+      decide Gives (tooShort lent tokens) _ _ (λ _. refuses 7 (1 + bodyBytes tokens))
       (λ fits a. record { tokens = tokens; read = e; fits = fits; sized = cc; filled = refl })
 
   pub build-made : Gives (build book lent)

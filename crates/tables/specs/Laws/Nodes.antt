@@ -1,5 +1,5 @@
 -- What the nodes stand for, from the facts of the built tables: children, leaves, token numbers, words, bytes and ancestors.
-use Prim.Native.Nat.{ℕ, zero, suc, _+_, _-_, _≤_, _<_}
+use Prim.Native.Nat.{ℕ, zero, suc, _-_, _≤_, _<_}
 use native.Mathlib.Omega.{arith}
 use mathlib.Core.Path.{_≡_, refl, ap, sym, _∙_}
 use mathlib.Core.Bool.{Bool, true, false, _&&_, not}
@@ -9,17 +9,16 @@ use borrow.Author.Tests.{eqb-true, eqb-false, lt-ltb, ltb-true}
 use lib.Dec.{eqb, ltb}
 use lib.ListN.{length, getD, take, drop, length-append}
 use lib.Seq.{append-snoc}
-use Rattle.rules.specs.Lists.{same, anyOf, every, least, numberFrom}
-use Rattle.rules.specs.Tokens.{agrees, fromRight, ends, grown, shiftOf, longestOf}
-use Rattle.rules.specs.Laws.Tests.{clash, same-test, not-test, false-test, and-l, and-r, or-r, below-suc, split, anyOf-in, anyOf-out, least-same}
-use Rattle.rules.specs.Laws.Endings.{same-refl, same→eq, ends→front, front→ends, ends-shorter}
-use Rattle.rules.specs.Laws.Lengths.{longest-ge}
-use Rattle.book.specs.Laws.Accepted.{Fit}
+use Rattle.rules.specs.Lists.{anyOf, every, least}
+use Rattle.rules.specs.Tokens.{agrees, fromRight, ends, grown, shiftOf}
+use Rattle.rules.specs.Laws.Tests.{clash, same-test, not-test, and-l, and-r, or-r, below-suc, split, anyOf-in, anyOf-out, least-same}
+use Rattle.rules.specs.Laws.Endings.{ends→front, front→ends, ends-shorter}
 use Rattle.tables.specs.Tables.{Tables}
 use Rattle.tables.specs.Walks.{childBy, ending, depth, lifted, words}
 use Rattle.tables.specs.Laws.Shape.{up, tag, head, Shape, Found, falling, way-lifts, child-found, ending-step, ending-cons, ending-apart}
-use Rattle.tables.specs.Laws.TokenAdded.{num}
-use Rattle.tables.specs.Laws.TokensAdded.{Numbered, Facts}
+use Rattle.tables.specs.Laws.WordAdded.{num}
+use Rattle.tables.specs.Laws.WordsAdded.{Facts}
+use Rattle.tables.specs.Laws.Numbering.{Numbering}
 
 -- a node stands for an ending, or both are missing
 abbrev pub Stand : Tables → ℕ → Option ℕ → Option (List ℕ) → Type 0
@@ -28,27 +27,7 @@ Stand t n none (some u) = ⊥
 Stand t n (some w) none = ⊥
 Stand t n (some w) (some u) = (w < n) × (ending t w ≡ u)
 
-number-none : (u : List ℕ) (i : ℕ) (ts : List (List ℕ)) → ((j : ℕ) → j < length ts → getD ts j [] ≡ u → ⊥) → numberFrom i u ts ≡ 0
-number-none u i [] d = refl
-number-none u i (t ∷ ts) d =
-    cc (false-test (same u t) (λ e. d 0 (omega arith) (sym (same→eq u t e))), number-none u (i + 1) ts (λ j h e. d (suc j) (omega arith) e))
-
-pub number-at : (u : List ℕ) (i : ℕ) (ts : List (List ℕ)) (j : ℕ) → j < length ts → getD ts j [] ≡ u
-    → ((k : ℕ) → k < j → getD ts k [] ≡ u → ⊥) → numberFrom i u ts ≡ i + j
-number-at u i [] j h e d = absurd (omega arith)
-number-at u i (t ∷ ts) zero h e d = let z : i ≡ i + 0 = omega arith in cc (same-refl u)
-number-at u i (t ∷ ts) (suc j) h e d =
-    let z : i + 1 + j ≡ i + suc j = omega arith in
-    cc (false-test (same u t) (λ e. d 0 (omega arith) (sym (same→eq u t e))), number-at u (i + 1) ts j (omega arith) e (λ k h q. d (suc k) (omega arith) q))
-
-numbered-some : (tokens : List (List ℕ)) (k : ℕ) (u : List ℕ) (m : ℕ) → 0 < m → Numbered tokens k u m → (j : ℕ) × (j < k) × (getD tokens j [] ≡ u)
-numbered-some tokens k u zero h f = absurd (omega arith)
-numbered-some tokens k u (suc m) h f = (m, f .0, f .1)
-
-numbered-pos : (tokens : List (List ℕ)) (k : ℕ) (u : List ℕ) (m : ℕ) → Numbered tokens k u m → (j : ℕ) → j < k → getD tokens j [] ≡ u → 0 < m
-numbered-pos tokens k u zero f j h e = absurd (f j h e)
-numbered-pos tokens k u (suc m) f j h e = omega arith
-
+-- the words that tables have
 module _ (t : Tables) where
   word-in : (p : List ℕ → Bool) (v m : ℕ) (l : List (List ℕ)) → 0 < m → p (ending t v) ≡ true
       → anyOf p (elim m [ zero ↦ l | suc i ↦ ending t v ∷ l ]) ≡ true
@@ -87,17 +66,17 @@ shift-same a b f S u (some x) =
       least-same (λ s. anyOf (λ t. agrees t s (length u) x) a) _ (λ s. f _) 1 (S - 1),
     )
 
-module _ (tokens : List (List ℕ)) (t : Tables) (n : ℕ) (fs : Facts tokens (length tokens) t n) where
+module _ (ws : List (List ℕ)) (number : List ℕ → ℕ) (t : Tables) (n : ℕ) (fs : Facts ws number (length ws) t n) where
   s : Shape t n
   s = fs .shape
 
-  pub real : (v : ℕ) → 0 < v → v < n → anyOf (ends (ending t v)) tokens ≡ true
-  real v a h = let q = fs .real v a h in anyOf-in (ends (ending t v)) tokens [] (q .0) (q .1) (q .2)
+  pub real : (v : ℕ) → 0 < v → v < n → anyOf (ends (ending t v)) ws ≡ true
+  real v a h = let q = fs .real v a h in anyOf-in (ends (ending t v)) ws [] (q .0) (q .1) (q .2)
 
-  pub deep : (v : ℕ) → v < n → depth t v ≤ longestOf tokens
-  deep v h = split v 0 (λ e. rw e (omega arith))
+  pub deep : (D : ℕ) → ((j : ℕ) → j < length ws → length (getD ws j []) ≤ D) → (v : ℕ) → v < n → depth t v ≤ D
+  deep D most v h = split v 0 (λ e. rw e (omega arith))
       (λ e. let q = fs .real v (omega arith) h in
-      omega (arith, ends-shorter (ending t v) (getD tokens (q .0) []) (q .2), longest-ge tokens (q .0) (q .1)))
+      omega (arith, ends-shorter (ending t v) (getD ws (q .0) []) (q .2), most (q .0) (q .1)))
 
   -- the way up from a node passes through every ending of its ending
   above : (f u : List ℕ) (w : ℕ) → w < n → ending t w ≡ f ++ u → (v : ℕ) × (v < n) × (ending t v ≡ u)
@@ -114,17 +93,17 @@ module _ (tokens : List (List ℕ)) (t : Tables) (n : ℕ) (fs : Facts tokens (l
       let q = ending-cons t n s w x (y ∷ (f ++ u)) h e in
       child-above (y ∷ f) u (up t w) (omega (arith, s .ups w (q .0) h)) (q .2) (omega arith)
 
-  pub stands : (u : List ℕ) → anyOf (ends u) tokens ≡ true → (w : ℕ) × (w < n) × (ending t w ≡ u)
+  pub stands : (u : List ℕ) → anyOf (ends u) ws ≡ true → (w : ℕ) × (w < n) × (ending t w ≡ u)
   stands u e =
-      let q = anyOf-out (ends u) tokens [] e in
+      let q = anyOf-out (ends u) ws [] e in
       let w = fs .node (q .0) (q .1) in
-      let y = getD tokens (q .0) [] in
+      let y = getD ws (q .0) [] in
       above (take (length y - length u) y) u (w .0) (w .1) (w .2 ∙ ends→front u y (q .2))
 
-  pub child : (v x : ℕ) → v < n → Stand t n (childBy t n v x) (grown tokens (ending t v) x)
-  child v x h = go (childBy t n v x) (child-found t n s v x h) (anyOf (ends (x ∷ ending t v)) tokens) refl
+  pub child : (v x : ℕ) → v < n → Stand t n (childBy t n v x) (grown ws (ending t v) x)
+  child v x h = go (childBy t n v x) (child-found t n s v x h) (anyOf (ends (x ∷ ending t v)) ws) refl
     where
-      go : (o : Option ℕ) → Found t n v 0 x o → (b : Bool) → anyOf (ends (x ∷ ending t v)) tokens ≡ b
+      go : (o : Option ℕ) → Found t n v 0 x o → (b : Bool) → anyOf (ends (x ∷ ending t v)) ws ≡ b
           → Stand t n o (elim b [ true ↦ some (x ∷ ending t v) | false ↦ none ])
       go none f true e =
           let w = stands (x ∷ ending t v) e in
@@ -136,10 +115,10 @@ module _ (tokens : List (List ℕ)) (t : Tables) (n : ℕ) (fs : Facts tokens (l
           let q : ending t w ≡ x ∷ ending t v = cc (ending-step t n s w (f .0) (f .1)) in
           clash _ (rw q at (real w (f .0) (f .1))) e
 
-  pub leaf : (v : ℕ) → v < n → eqb (head t v) 0 ≡ not (anyOf (λ u. ltb (length (ending t v)) (length u) && ends (ending t v) u) tokens)
+  pub leaf : (v : ℕ) → v < n → eqb (head t v) 0 ≡ not (anyOf (λ u. ltb (length (ending t v)) (length u) && ends (ending t v) u) ws)
   leaf v h = not-test (eqb (head t v) 0) _
-      (λ a b. let q = anyOf-out (λ u. ltb (length (ending t v)) (length u) && ends (ending t v) u) tokens [] b in
-      let u = getD tokens (q .0) [] in
+      (λ a b. let q = anyOf-out (λ u. ltb (length (ending t v)) (length u) && ends (ending t v) u) ws [] b in
+      let u = getD ws (q .0) [] in
       let long : length (ending t v) < length u = ltb-true _ _ (and-l (ltb (length (ending t v)) (length u)) (ends (ending t v) u) (q .2)) in
       let f = take (length u - length (ending t v)) u in
       let front : u ≡ f ++ ending t v = ends→front (ending t v) u (and-r (ltb (length (ending t v)) (length u)) (ends (ending t v) u) (q .2)) in
@@ -153,11 +132,11 @@ module _ (tokens : List (List ℕ)) (t : Tables) (n : ℕ) (fs : Facts tokens (l
       ))
       (λ a. let c = s .heads v h .node (omega (arith, eqb-false (head t v) 0 a)) in
       let q = fs .real (head t v) (c .0) (c .1) in
-      let u = getD tokens (q .0) [] in
+      let u = getD ws (q .0) [] in
       let e : ending t (head t v) ≡ tag t (head t v) ∷ ending t v = cc (ending-step t n s (head t v) (c .0) (c .1)) in
       let r = rw e at (q .2) in
       let f = take (length u - suc (length (ending t v))) u in
-      anyOf-in (λ u. ltb (length (ending t v)) (length u) && ends (ending t v) u) tokens [] (q .0) (q .1)
+      anyOf-in (λ u. ltb (length (ending t v)) (length u) && ends (ending t v) u) ws [] (q .0) (q .1)
       (cc (
         lt-ltb (length (ending t v)) (length u) (ends-shorter (tag t (head t v) ∷ ending t v) u r),
         front→ends (f ++ (tag t (head t v) ∷ [])) (ending t v) u
@@ -178,23 +157,24 @@ module _ (tokens : List (List ℕ)) (t : Tables) (n : ℕ) (fs : Facts tokens (l
   pub lifts : (j v : ℕ) → v < n → (lifted t j v < n) × (ending t (lifted t j v) ≡ drop j (ending t v))
   lifts = way-lifts t n (falling t n s)
 
-  -- the words of the nodes are the tokens
-  pub word : (p : List ℕ → Bool) → anyOf p (words t n) ≡ anyOf p tokens
-  word p = same-test (anyOf p (words t n)) (anyOf p tokens)
-      (λ e. let q = words-out t p n e in
-      let j = numbered-some tokens (length tokens) (ending t (q .0)) (num t (q .0)) (q .2) (fs .numbered (q .0) (q .1)) in
-      anyOf-in p tokens [] (j .0) (j .1) (rw (j .2) (q .3)))
-      (λ e. let q = anyOf-out p tokens [] e in
-      let w = fs .node (q .0) (q .1) in
-      words-in t p n (w .0) (w .1)
-      (numbered-pos tokens (length tokens) (ending t (w .0)) (num t (w .0)) (fs .numbered (w .0) (w .1)) (q .0) (q .1) (sym (w .2)))
-      (rw (w .2) (q .2)))
+  -- a word's node has its number
+  word-number : (v j : ℕ) → v < n → j < length ws → getD ws j [] ≡ ending t v → num t v ≡ number (ending t v)
+  word-number v j h j< e =
+      let w = fs .node j j< in
+      ap (num t) (sym (ending-apart t n s (w .0) v (w .1) h (w .2 ∙ e))) ∙ w .3 ∙ ap number e
 
-  module _ (fit : Fit tokens) where
-    pub token : (v : ℕ) → v < n → num t v ≡ numberFrom 1 (ending t v) tokens
-    token v h = go (num t v) (fs .numbered v h)
-      where
-        go : (m : ℕ) → Numbered tokens (length tokens) (ending t v) m → m ≡ numberFrom 1 (ending t v) tokens
-        go zero f = sym (number-none (ending t v) 1 tokens f)
-        go (suc m) f =
-            sym (number-at (ending t v) 1 tokens m (f .0) (f .1) (λ k k< e. omega (arith, fit .distinct k m (omega (arith, f .0)) (f .0) (e ∙ sym (f .1)))) ∙ omega arith)
+  module _ (ns : Numbering ws number) where
+    pub token : (v : ℕ) → v < n → num t v ≡ number (ending t v)
+    token v h = split (number (ending t v)) 0
+        (λ e. split (num t v) 0 (λ z. z ∙ sym e) (λ d. let j = fs .word v h (omega arith) in word-number v (j .0) h (j .1) (sym (j .2))))
+        (λ d. let j = ns .only (ending t v) (omega arith) in word-number v (j .0) h (j .1) (j .2))
+
+    -- the words that the tables have are the words
+    pub words-pass : (p : List ℕ → Bool) → anyOf p (words t n) ≡ anyOf p ws
+    words-pass p = same-test (anyOf p (words t n)) (anyOf p ws)
+        (λ e. let q = words-out t p n e in
+        let j = fs .word (q .0) (q .1) (q .2) in
+        anyOf-in p ws [] (j .0) (j .1) (rw (← j .2) (q .3)))
+        (λ e. let q = anyOf-out p ws [] e in
+        let w = fs .node (q .0) (q .1) in
+        words-in t p n (w .0) (w .1) (omega (arith, w .3, ns .least (q .0) (q .1))) (rw (w .2) (q .2)))

@@ -1,4 +1,4 @@
--- The nodes' endings as a list in the order of their numbers, and what a token's bytes do to it.
+-- The nodes' endings as a list in the order of their numbers, and what a word's bytes do to it.
 use Prim.Native.Nat.{ℕ, suc, _<_}
 use native.Mathlib.Omega.{arith}
 use mathlib.Core.Path.{_≡_, refl, sym, _∙_}
@@ -9,7 +9,7 @@ use lib.Seq.{getD-at}
 use Rattle.rules.specs.Lists.{same, anyOf}
 use Rattle.rules.specs.Laws.Tests.{false-test, below-suc, anyOf-in, anyOf-out}
 use Rattle.rules.specs.Laws.Endings.{same-refl, same→eq}
-use Rattle.tables.specs.Tables.{Tables, endingsOf, notedTokens}
+use Rattle.tables.specs.Tables.{Tables, endingsOf, notedWords}
 use Rattle.tables.specs.Walks.{ending}
 use Rattle.tables.specs.Laws.Shape.{Shape, Agree, ending-same}
 
@@ -51,11 +51,11 @@ upwards-append : (xs ys u : List ℕ) → upwards (xs ++ ys) u ≡ upwards xs u 
 upwards-append [] ys u = refl
 upwards-append (x ∷ xs) ys u = cc (upwards-append xs ys (x ∷ u))
 
-pub upwards-all : (body : List ℕ) → upwards (reverse body) [] ≡ endingsOf body
+pub upwards-all : (word : List ℕ) → upwards (reverse word) [] ≡ endingsOf word
 upwards-all [] = refl
-upwards-all (x ∷ body) = rw (reverse-cons, upwards-append) (cc (upwards-all body, reverse-reverse body))
+upwards-all (x ∷ word) = rw (reverse-cons, upwards-append) (cc (upwards-all word, reverse-reverse word))
 
--- the tokens ts, and then more
-pub tokens-append : (seen ts us : List (List ℕ)) → notedTokens seen (ts ++ us) ≡ notedTokens (notedTokens seen ts) us
-tokens-append seen [] us = refl
-tokens-append seen (t ∷ ts) us = tokens-append _ ts us
+-- the words ws, and then more
+pub noted-append : (seen ws us : List (List ℕ)) → notedWords seen (ws ++ us) ≡ notedWords (notedWords seen ws) us
+noted-append seen [] us = refl
+noted-append seen (w ∷ ws) us = noted-append _ ws us

@@ -1,4 +1,4 @@
--- The tables made by inserting the tokens are the built ones: their nodes are listed alike (`Listed`), so each entry is what
+-- The tables made by inserting the words are the built ones: their nodes are listed alike (`Listed`), so each entry is what
 -- `built` says of that list.
 use Prim.Native.Nat.{ℕ, zero, suc, _+_, _-_, _<_}
 use native.Mathlib.Omega.{arith}
@@ -6,17 +6,30 @@ use mathlib.Core.Path.{_≡_, refl, sym, _∙_}
 use mathlib.Core.List.{List, [], _∷_, map}
 use lib.ListN.{length, getD, drop, length-map, drop-of-length-le}
 use lib.Seq.{take-length, drop-cons, ext-getD}
-use Rattle.rules.specs.Lists.{numberFrom}
-use Rattle.rules.specs.Laws.Tests.{decide, clash, split}
+use Rattle.rules.specs.Lists.{same, numberWhere}
+use Rattle.rules.specs.Words.{numberOf, allWords}
+use Rattle.rules.specs.Laws.Tests.{decide, clash, false-test, split}
 use Rattle.rules.specs.Laws.Endings.{same-refl, same→eq}
 use Rattle.book.specs.Laws.Accepted.{Fit}
 use Rattle.tables.specs.Tables.{Tables, nodes, labelOf, above, isChild, childFrom, siblingFrom, siblings, built}
 use Rattle.tables.specs.Walks.{ending}
-use Rattle.tables.specs.Laws.Inserted.{insertedAll}
+use Rattle.tables.specs.Laws.Inserted.{insertedWords, rootOnly, insertedAll}
 use Rattle.tables.specs.Laws.Shape.{alike, up, tag, head, sib, Link, Shape, ending-step, ending-apart}
 use Rattle.tables.specs.Laws.Order.{Listed}
-use Rattle.tables.specs.Laws.TokensAdded.{built-facts}
-use Rattle.tables.specs.Laws.Nodes.{number-at, token}
+use Rattle.tables.specs.Laws.WordsAdded.{built-facts}
+use Rattle.tables.specs.Laws.Numbering.{words-numbered, by-words}
+use Rattle.tables.specs.Laws.Nodes.{token}
+
+number-at : (u : List ℕ) (i : ℕ) (ts : List (List ℕ)) (j : ℕ) → j < length ts → getD ts j [] ≡ u
+    → ((k : ℕ) → k < j → getD ts k [] ≡ u → ⊥) → numberWhere (same u) i ts ≡ i + j
+number-at u i [] j h e d = absurd (omega arith)
+number-at u i (t ∷ ts) zero h e d = let z : i ≡ i + 0 = omega arith in cc (same-refl u)
+number-at u i (t ∷ ts) (suc j) h e d =
+    let z : i + 1 + j ≡ i + suc j = omega arith in
+    cc (
+      false-test (same u t) (λ e. d 0 (omega arith) (sym (same→eq u t e))),
+      number-at u (i + 1) ts j (omega arith) e (λ k h q. d (suc k) (omega arith) q),
+    )
 
 map-at : (f : List ℕ → ℕ) (us : List (List ℕ)) (v : ℕ) → v < length us → getD (map f us) v 0 ≡ f (getD us v [])
 map-at f [] v h = absurd (omega arith)
@@ -44,12 +57,12 @@ module _ (t : Tables) (n : ℕ) (s : Shape t n) (us : List (List ℕ)) (l : List
   from : (v : ℕ) → v < n → drop v us ≡ ending t v ∷ drop (suc v) us
   from v h = rw (← l .at v h) (drop-cons us v [] (omega (arith, l .size)))
 
-  parent-is : (v : ℕ) → v < n → up t v ≡ numberFrom 0 (above (ending t v)) us
+  parent-is : (v : ℕ) → v < n → up t v ≡ numberWhere (same (above (ending t v))) 0 us
   parent-is v h = split v 0
       (λ e. rw (e, s .root-up) (at 0 (s .size)))
       (λ e. let k = s .ups v (omega arith) h in rw (ending-step t n s v (omega arith) h) (at (up t v) (omega arith)))
     where
-      at : (w : ℕ) → w < n → w ≡ numberFrom 0 (ending t w) us
+      at : (w : ℕ) → w < n → w ≡ numberWhere (same (ending t w)) 0 us
       at w k = sym (number-at (ending t w) 0 us w (omega (arith, l .size)) (l .at w k)
           (λ v v< e. omega (arith, ending-apart t n s v w (omega arith) k (sym (l .at v (omega arith)) ∙ e))) ∙ omega arith)
 
@@ -89,18 +102,24 @@ module _ (t : Tables) (n : ℕ) (s : Shape t n) (us : List (List ℕ)) (l : List
       let k : v < n = omega arith in
       next-is v k ∙ sym (rw (siblings-at 1 us v (omega (arith, l .size)), l .at v k)))
 
-pub inserted-built : (tokens : List (List ℕ)) → Fit tokens → insertedAll tokens ≡ built tokens
-unfolding built
-inserted-built tokens fit =
-    let b = built-facts tokens in
-    let t = insertedAll tokens in
-    let n = b .size in
-    let s = b .facts .shape in
-    let us = nodes tokens in
-    let l : Listed t n us = rw take-length at (b .facts .listed) in
-    alike t (built tokens)
-    (mapped t n s us l (λ u. numberFrom 0 (above u) us) (t .parent) (b .sized .parents) (parent-is t n s us l))
-    (mapped t n s us l labelOf (t .label) (b .sized .labels) (label-is t n s us l))
-    (mapped t n s us l (λ u. numberFrom 1 u tokens) (t .token) (b .sized .tokens) (token tokens t n (b .facts) fit))
-    (mapped t n s us l (λ u. childFrom 0 u us) (t .first) (b .sized .firsts) (first-is t n s us l))
-    (nexts-are t n s us l (b .sized .nexts))
+module _ (tokens : List (List ℕ)) (fit : Fit tokens) where
+  pub words-built : insertedWords rootOnly (numberOf tokens) (allWords tokens) ≡ built tokens
+  unfolding built
+  words-built =
+      let words = allWords tokens in
+      let number = numberOf tokens in
+      let b = built-facts words number in
+      let t = insertedWords rootOnly number words in
+      let n = b .size in
+      let s = b .facts .shape in
+      let us = nodes words in
+      let l : Listed t n us = rw take-length at (b .facts .listed) in
+      alike t (built tokens)
+      (mapped t n s us l (λ u. numberWhere (same (above u)) 0 us) (t .parent) (b .sized .parents) (parent-is t n s us l))
+      (mapped t n s us l labelOf (t .label) (b .sized .labels) (label-is t n s us l))
+      (mapped t n s us l number (t .token) (b .sized .tokens) (token words number t n (b .facts) (words-numbered tokens fit)))
+      (mapped t n s us l (λ u. childFrom 0 u us) (t .first) (b .sized .firsts) (first-is t n s us l))
+      (nexts-are t n s us l (b .sized .nexts))
+
+  pub inserted-built : insertedAll tokens ≡ built tokens
+  inserted-built = by-words tokens fit ∙ words-built

@@ -3,41 +3,34 @@ use Prim.Native.Nat.{ℕ, zero, suc, _+_, _≤_, _<_}
 use native.Mathlib.Omega.{arith}
 use mathlib.Core.Path.{_≡_, refl, ap}
 use mathlib.Core.Bool.{true}
-use mathlib.Core.List.{List, []}
+use mathlib.Core.List.{List}
 use mathlib.Core.Option.{none}
 use borrow.Author.Tests.{eqb-true, eqb-false, eq-eqb, lt-ltb, le-leb, le-ltb}
 use lib.Dec.{eqb}
-use lib.ListN.{length, getD}
-use Rattle.book.specs.Book.{maxBody, maxTokens}
+use lib.ListN.{length}
+use Rattle.book.specs.Book.{maxBody}
 use Rattle.rules.specs.Laws.Tests.{decide, or-r, split}
-use Rattle.rules.specs.Laws.Endings.{ends-shorter}
-use Rattle.book.specs.Laws.Accepted.{Fit}
 use Rattle.tables.specs.Tables.{Tables, shortestTable}
 use Rattle.tables.specs.Walks.{ending, depth}
 use Rattle.tables.specs.Broken.{maxNumber, linked, links, sound, firstBreak, broken, maxDepth}
 use Rattle.tables.specs.Laws.Shape.{up, head, sib, Shape}
-use Rattle.tables.specs.Laws.TokenAdded.{num}
-use Rattle.tables.specs.Laws.TokensAdded.{Numbered, Facts}
-
-numbered-le : (tokens : List (List ℕ)) (k : ℕ) (u : List ℕ) (m : ℕ) → Numbered tokens k u m → m ≤ k
-numbered-le tokens k u zero f = omega arith
-numbered-le tokens k u (suc m) f = f .0
+use Rattle.tables.specs.Laws.WordAdded.{num}
+use Rattle.tables.specs.Laws.WordsAdded.{Facts}
+use Rattle.tables.specs.Laws.Numbering.{Numbering}
+use Rattle.tables.specs.Laws.Nodes.{deep, token}
 
 linked-true : (t : Tables) (n v at p : ℕ) → (0 < at → (v < at) × (at < n) × (up t at ≡ p)) → linked t n v at p ≡ true
 linked-true t n v at p f = or-r (eqb at 0) _ (λ e.
     let q = f (omega (arith, eqb-false at 0 e)) in
     cc (lt-ltb v at (q .0), lt-ltb at n (q .1), eq-eqb (up t at) p (q .2)))
 
-module _ (tokens : List (List ℕ)) (t : Tables) (n : ℕ) (fs : Facts tokens (length tokens) t n) (fit : Fit tokens) where
+module _ (ws : List (List ℕ)) (number : List ℕ → ℕ) (t : Tables) (n : ℕ) (fs : Facts ws number (length ws) t n) (ns : Numbering ws number) where
   s : Shape t n
   s = fs .shape
 
   root-num : num t 0 ≡ 0
-  root-num = go (num t 0) (fs .numbered 0 (s .size))
-    where
-      go : (m : ℕ) → Numbered tokens (length tokens) [] m → m ≡ 0
-      go zero f = refl
-      go (suc m) f = absurd (omega (arith, fit .each m (f .0) .0, ap length (f .1)))
+  root-num = split (num t 0) 0 (λ z. z)
+      (λ d. let q = fs .word 0 (s .size) (omega arith) in absurd (omega (arith, ns .each (q .0) (q .1), ap length (q .2))))
 
   links-true : (v : ℕ) → v < n → links t n v ≡ true
   links-true v h = cc (
@@ -47,11 +40,6 @@ module _ (tokens : List (List ℕ)) (t : Tables) (n : ℕ) (fs : Facts tokens (l
         (λ e. s .sibs v (omega arith) h .node a)),
   )
 
-  shallow : (v : ℕ) → 0 < v → v < n → depth t v ≤ maxBody
-  shallow v a h =
-      let q = fs .real v a h in
-      omega (arith, ends-shorter (ending t v) (getD tokens (q .0) []) (q .2), fit .each (q .0) (q .1) .1)
-
   sound-true : (v : ℕ) → v < n → sound t n v ≡ true
   sound-true v h = decide (λ b. b ≡ true) (eqb v 0) _ _
       (λ e. let z = eqb-true v 0 e in
@@ -59,8 +47,8 @@ module _ (tokens : List (List ℕ)) (t : Tables) (n : ℕ) (fs : Facts tokens (l
       (λ e. let a : 0 < v = omega (arith, eqb-false v 0 e) in
       cc (
         lt-ltb (up t v) v (s .ups v a h),
-        le-leb (depth t v) maxDepth (omega (arith, shallow v a h)),
-        le-leb (num t v) maxNumber (omega (arith, numbered-le tokens (length tokens) (ending t v) (num t v) (fs .numbered v h), fit .count)),
+        le-leb (depth t v) maxDepth (omega (arith, deep ws number t n fs maxBody (λ j k. ns .each j k .1) v h)),
+        le-leb (num t v) maxNumber (omega (arith, token ws number t n fs ns v h, ns .most (ending t v))),
         links-true v h,
       ))
 

@@ -14,7 +14,7 @@ use Rattle.tables.specs.Tables.{Tables, shortestTable}
 use Rattle.tables.specs.Walks.{along, childBy, ending, depth, lifted}
 use Rattle.tables.specs.Broken.{maxNumber, linked, links, sound, firstBreak, broken, maxDepth}
 use Rattle.tables.specs.Laws.Shape.{up, tag, head, sib, Falling, way-step, way-lifts}
-use Rattle.tables.specs.Laws.TokenAdded.{num}
+use Rattle.tables.specs.Laws.WordAdded.{num}
 
 pub record Unbroken (t : Tables) (count : ℕ) : Type 0 where
   pub held : count ≤ shortestTable t

@@ -19,7 +19,7 @@ use Rattle.tables.specs.Laws.Inserted.{lastOf, Grown, withChild, inserted}
 use Rattle.tables.specs.Laws.Shape.{alike, head, Shape, last-found}
 use Rattle.trie.specs.Laws.Chain.{walked-end, walked-child, walked-same, walked-last}
 use Rattle.tables.specs.Laws.NodeAdded.{Sized}
-use Rattle.tables.specs.Laws.TokenAdded.{Inserted, inserts}
+use Rattle.tables.specs.Laws.WordAdded.{Inserted, inserts}
 use Rattle.trie.specs.Laws.Over.{Kept, room-less, over-push, over-change, cut-sized, cut-shape, written-cut, cut-written, written-shape, written-kept, written-room, written-written}
 
 -- the store that a new child wants, by the last child so far

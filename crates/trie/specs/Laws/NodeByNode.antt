@@ -14,7 +14,7 @@ use Rattle.tables.specs.Walks.{climb, depth}
 use Rattle.tables.specs.Broken.{maxDepth, maxNumber, linked, links, sound, firstBreak, broken}
 use Rattle.trie.specs.Answers.{tables, ownSound}
 use Rattle.tables.specs.Laws.Shape.{up, tag, head, sib, Falling, way-step}
-use Rattle.tables.specs.Laws.TokenAdded.{num}
+use Rattle.tables.specs.Laws.WordAdded.{num}
 
 -- the way up from v has at most v steps
 climb-short : (t : Tables) (fuel v : ℕ) → length (climb t fuel v) ≤ fuel

@@ -11,7 +11,7 @@ use Rattle.tables.specs.Tables.{Tables, written}
 use Rattle.trie.specs.InPlace.{Room, cut}
 use Rattle.tables.specs.Laws.Shape.{alike, Shape}
 use Rattle.tables.specs.Laws.NodeAdded.{Sized}
-use Rattle.tables.specs.Laws.TokensAdded.{shape-agree}
+use Rattle.tables.specs.Laws.WordsAdded.{shape-agree}
 
 -- the lists are as long as they were
 pub record Kept (t t′ : Tables) : Type 0 where

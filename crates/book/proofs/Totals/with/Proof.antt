@@ -5,9 +5,10 @@ use native.Mathlib.Omega.{arith}
 use mathlib.Core.Path.{_≡_, refl}
 use mathlib.Core.List.{List, [], _∷_, _++_}
 use lib.ListN.{length, length-append}
-use Rattle.rules.specs.Tokens.{shortestOf, longestOf}
+use Rattle.rules.specs.Words.{wordsOf}
+use Rattle.rules.specs.Tokens.{total, shortestOf, longestOf}
+use Rattle.rules.specs.Laws.Words.{bytes-snoc}
 use Rattle.book.specs.Answers.{Amounts}
-use Rattle.book.specs.Laws.Accepted.{total-snoc}
 use Rattle.book.proofs.Totals.with.Statement.{statement}
 use Rattle.book.proofs.Totals.with.Tie as tie
 
@@ -20,19 +21,19 @@ longest-snoc : (ts : List (List ℕ)) (t : List ℕ) → longestOf (ts ++ (t ∷
 longest-snoc [] t = omega arith
 longest-snoc (u ∷ ts) t = omega (arith, longest-snoc ts t)
 
-first : (ts : List (List ℕ)) (t : List ℕ) (n : ℕ) → length ts ≡ 0 → n ≡ length t
-    → Amounts (record { tokens = 1; bodies = n; shortest = n; longest = n }) (ts ++ (t ∷ []))
-first [] t n z e = omega arith
-first (u ∷ ts) t n z e = absurd (omega arith)
+first : (ts : List (List ℕ)) (t : List ℕ) (n m : ℕ) → length ts ≡ 0 → n ≡ length t → m ≡ total (wordsOf t)
+    → Amounts (record { tokens = 1; bodies = m; shortest = n; longest = n }) (ts ++ (t ∷ []))
+first [] t n m z e f = omega (arith, bytes-snoc [] t)
+first (u ∷ ts) t n m z e f = absurd (omega arith)
 
 returns : tie.Need-returns
-returns c = λ ts t a e. first ts t (c .before .before .args .size) (omega arith) e
-
-add-t4 : tie.Need-add-t4
-add-t4 c = search needs
+returns c = λ ts t a e f. first ts t (c .before .before .args .size) (c .before .before .args .bytes) (omega arith) e f
 
 add-t5 : tie.Need-add-t5
 add-t5 c = search needs
+
+add-t6 : tie.Need-add-t6
+add-t6 c = search needs
 
 less-requires : tie.Need-less-requires
 less-requires c κs = search needs
@@ -41,9 +42,9 @@ more-requires : tie.Need-more-requires
 more-requires c κs = search needs
 
 returns-2 : tie.Need-returns-2
-returns-2 c = λ ts t a e.
+returns-2 c = λ ts t a e f.
     let some = c .before .before .before .before .if1 .left in
-    omega (arith, length-append ts (t ∷ []), total-snoc ts t, shortest-snoc ts t (omega arith), longest-snoc ts t)
+    omega (arith, length-append ts (t ∷ []), bytes-snoc ts t, shortest-snoc ts t (omega arith), longest-snoc ts t)
 
 pub with-spec : {M : Type 1} → statement M
-with-spec = tie.close (tie.spec returns add-t4 add-t5 less-requires more-requires returns-2)
+with-spec = tie.close (tie.spec returns add-t5 add-t6 less-requires more-requires returns-2)

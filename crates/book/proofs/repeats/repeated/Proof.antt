@@ -1,5 +1,5 @@
 -- `repeats::repeated` meets its contract: the bodies before the record are the tokens read so far, and a body whose mark is not
--- set is none of them.
+-- set is a word of none of them.
 use borrow.Author.Needs.{needs}
 use Prim.Native.Nat.{ℕ, _+_, _-_, _≤_, _<_}
 use native.Mathlib.Omega.{arith}
@@ -8,7 +8,8 @@ use mathlib.Core.List.{List, [], _∷_, _++_}
 use mathlib.Core.Path.{_≡_, ap, sym, _∙_}
 use lib.ListN.{length, take, drop}
 use lib.Seq.{length-take-le}
-use Rattle.rules.specs.Lists.{anyOf, same}
+use Rattle.rules.specs.Lists.{anyOf}
+use Rattle.rules.specs.Words.{isWord}
 use Rattle.book.specs.Book.{bodiesIn}
 use Rattle.book.specs.Filter.{marks, hash, isMarked, marked, Covers}
 use Rattle.book.specs.Laws.Bodies.{upto-bodies}
@@ -31,7 +32,7 @@ module _ (book : List ℕ) (at size : ℕ) (inside : at + 1 + size ≤ length bo
   -- What the contract says of an answer r, with the filter before and after.
   module _ (filter after : List ℕ) (n : ℕ) (e : n ≡ hash part) (h : n < marks) (l : after ≡ marked filter n) where
     abbrev Said : Bool → Type 0
-    Said r = (ts : List (List ℕ)) → Upto book at ts → Covers filter ts → (r ≡ anyOf (same body) ts) × Covers after (ts ++ (body ∷ []))
+    Said r = (ts : List (List ℕ)) → Upto book at ts → Covers filter ts → (r ≡ anyOf (isWord body) ts) × Covers after (ts ++ (body ∷ []))
 
     own : n ≡ hash body
     own = e ∙ ap hash cut
@@ -39,7 +40,7 @@ module _ (book : List ℕ) (at size : ℕ) (inside : at + 1 + size ≤ length bo
     covers-after : (ts : List (List ℕ)) → Covers filter ts → Covers after (ts ++ (body ∷ []))
     covers-after ts c = rw (l, own) (covers-more filter body ts c (rw own at h))
 
-    searched : (r : Bool) → r ≡ anyOf (same part) (bodiesIn (take at book)) → Said r
+    searched : (r : Bool) → r ≡ anyOf (isWord part) (bodiesIn (take at book)) → Said r
     searched r q ts u c = (q ∙ rw (cut, upto-bodies book at ts (omega arith) u), covers-after ts c)
 
     unsearched : isMarked filter n ≡ false → Said false

@@ -4,7 +4,7 @@ use borrow.Author.Needs.{needs}
 use lib.ListN.{length-set}
 use Rattle.rules.specs.Tokens.{nodeShift}
 use Rattle.agree.specs.Tests.{nodeTest}
-use Rattle.image.specs.Rule5.{tokensOf}
+use Rattle.image.specs.Rule5.{wordsIn}
 use Rattle.image.proofs.Laws.Caches.{least-fits, by-node-set}
 use Rattle.image.proofs.caches.node_shift.Statement.{statement}
 use Rattle.image.proofs.caches.node_shift.Tie as tie
@@ -22,7 +22,7 @@ returns : tie.Need-returns
 returns c =
     let s = c .before .before .before .before .before .before in
     let a = s .args in
-    let name = ap (nodeShift (tokensOf (a .book .now)) (a .shortest)) (s .pre .1 .0 .1) in
+    let name = ap (nodeShift (wordsIn (a .book .now)) (a .shortest)) (s .pre .1 .0 .1) in
     let w = c .before .wide .ensures in
     (w ∙ s .pre .1 .1 .right (a .node) (λ e. c .if1 .taken (w ∙ e)) ∙ sym name, (s .pre .1 .1, refl))
 
@@ -47,7 +47,7 @@ returns-2 : tie.Need-returns-2
 returns-2 c =
     let s = c .before .before .before .before .before .before .before in
     let a = s .args in
-    let name = ap (nodeShift (tokensOf (a .book .now)) (a .shortest)) (s .pre .1 .0 .1) in
+    let name = ap (nodeShift (wordsIn (a .book .now)) (a .shortest)) (s .pre .1 .0 .1) in
     let r = c .node-shift in (
       r .ensures,
       (

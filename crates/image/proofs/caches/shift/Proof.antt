@@ -1,7 +1,7 @@
 -- `caches::shift` meets its contract: the greater of the two shifts, or the node shift where no byte ended the round.
 use mathlib.Core.Path.{ap}
 use borrow.Author.Needs.{needs}
-use Rattle.image.specs.Rule5.{tokensOf, closingOf}
+use Rattle.image.specs.Rule5.{wordsIn, closingOf}
 use Rattle.image.proofs.Laws.Caches.{shift-nothing, shift-byte}
 use Rattle.image.proofs.caches.shift.Statement.{statement}
 use Rattle.image.proofs.caches.shift.Tie as tie
@@ -29,7 +29,7 @@ returns c =
     let s = c .before .before .before .before .before .before .before .before .before .before in
     let a = s .args in
     let n = c .before .before .before .before .node-shift in (
-      shift-nothing (tokensOf (a .book .now)) (a .shortest) (a .matched .now) (n .result) (n .ensures .0) (closingOf (a .stop))
+      shift-nothing (wordsIn (a .book .now)) (a .shortest) (a .matched .now) (n .result) (n .ensures .0) (closingOf (a .stop))
           (ap closingOf (c .enum-told .given .1)),
       ((n .ensures .1 .0, s .pre .1 .1 .1), n .ensures .1 .1),
     )
@@ -47,7 +47,7 @@ returns-2 c =
     let n = c .before .before .before .before .before .before .before .before .before .before .node-shift in
     let x = c .before .before .before .byte-shift in
     let told = c .before .before .before .before .before .before .stop .given in (
-      shift-byte (tokensOf (a .book .now)) (a .shortest) (a .matched .now) (n .result) (n .ensures .0) (closingOf (a .stop))
+      shift-byte (wordsIn (a .book .now)) (a .shortest) (a .matched .now) (n .result) (n .ensures .0) (closingOf (a .stop))
           (told .0 .0) (ap closingOf (told .1)) (x .result) (x .ensures .0) (c .greater .result) (c .greater .ensures),
       ((n .ensures .1 .0, x .ensures .1), n .ensures .1 .1),
     )

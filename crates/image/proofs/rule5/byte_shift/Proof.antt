@@ -5,7 +5,7 @@ use borrow.Author.Needs.{needs}
 use lib.ListN.{length}
 use Rattle.agree.specs.Tests.{byteTest}
 use Rattle.book.specs.Laws.Taken.{whole-inside}
-use Rattle.image.proofs.Laws.Rule5.{Passed, passed-none, passed-more, passed-all}
+use Rattle.image.proofs.Laws.Rule5.{Passed, passed-none, passed-some, passed-more, passed-all}
 use Rattle.image.proofs.rule5.byte_shift.Statement.{statement}
 use Rattle.image.proofs.rule5.byte_shift.Tie as tie
 
@@ -37,17 +37,20 @@ ends c =
 add-end : tie.Need-add-end Inv-loop μ-loop
 add-end c = omega (arith, ends c)
 
-sub-byte-least : tie.Need-sub-byte-least Inv-loop μ-loop
-sub-byte-least c = search needs
+sub-byte-words : tie.Need-sub-byte-words Inv-loop μ-loop
+sub-byte-words c = search needs
 
-part-byte-least-start : tie.Need-part-byte-least-start Inv-loop μ-loop
-part-byte-least-start c = search needs
+part-byte-words-start : tie.Need-part-byte-words-start Inv-loop μ-loop
+part-byte-words-start c = search needs
 
-part-byte-least-end : tie.Need-part-byte-least-end Inv-loop μ-loop
-part-byte-least-end c = omega (arith, ends c)
+part-byte-words-end : tie.Need-part-byte-words-end Inv-loop μ-loop
+part-byte-words-end c = omega (arith, ends c)
 
-byte-least-requires : tie.Need-byte-least-requires Inv-loop μ-loop
-byte-least-requires c κs = search needs
+byte-words-requires : tie.Need-byte-words-requires Inv-loop μ-loop
+byte-words-requires c κs =
+    let s = c .before .before .before .before .before in
+    let a = s .args in
+    passed-some (byteTest (a .depth) (a .x)) (s .pre) (c .before .before .before .loop .inv)
 
 loop-less : tie.Need-loop-less Inv-loop μ-loop
 loop-less c = search needs
@@ -58,7 +61,7 @@ loop-again c =
     let a = s .args in
     let n = c .before .before .body-at in
     passed-more (byteTest (a .depth) (a .x)) (s .pre) (c .before .before .before .before .loop .inv) (c .before .before .before .loop-test .taken)
-    (n .result) (n .ensures) (c .byte-least .result) (c .byte-least .ensures)
+    (n .result) (n .ensures) (c .byte-words .result) (c .byte-words .ensures)
 
 returns : tie.Need-returns Inv-loop μ-loop
 returns c =
@@ -77,10 +80,10 @@ byte-shift-spec =
     add-start
     body-at-requires
     add-end
-    sub-byte-least
-    part-byte-least-start
-    part-byte-least-end
-    byte-least-requires
+    sub-byte-words
+    part-byte-words-start
+    part-byte-words-end
+    byte-words-requires
     loop-less
     loop-again
     returns)

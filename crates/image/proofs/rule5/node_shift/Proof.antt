@@ -5,7 +5,7 @@ use borrow.Author.Needs.{needs}
 use lib.ListN.{length}
 use Rattle.agree.specs.Tests.{nodeTest}
 use Rattle.book.specs.Laws.Taken.{whole-inside}
-use Rattle.image.proofs.Laws.Rule5.{Passed, passed-none, passed-more, passed-all}
+use Rattle.image.proofs.Laws.Rule5.{Passed, passed-none, passed-some, passed-more, passed-all}
 use Rattle.image.proofs.rule5.node_shift.Statement.{statement}
 use Rattle.image.proofs.rule5.node_shift.Tie as tie
 
@@ -37,17 +37,20 @@ ends c =
 add-end : tie.Need-add-end Inv-loop μ-loop
 add-end c = omega (arith, ends c)
 
-sub-node-least : tie.Need-sub-node-least Inv-loop μ-loop
-sub-node-least c = search needs
+sub-node-words : tie.Need-sub-node-words Inv-loop μ-loop
+sub-node-words c = search needs
 
-part-node-least-start : tie.Need-part-node-least-start Inv-loop μ-loop
-part-node-least-start c = search needs
+part-node-words-start : tie.Need-part-node-words-start Inv-loop μ-loop
+part-node-words-start c = search needs
 
-part-node-least-end : tie.Need-part-node-least-end Inv-loop μ-loop
-part-node-least-end c = omega (arith, ends c)
+part-node-words-end : tie.Need-part-node-words-end Inv-loop μ-loop
+part-node-words-end c = omega (arith, ends c)
 
-node-least-requires : tie.Need-node-least-requires Inv-loop μ-loop
-node-least-requires c κs = search needs
+node-words-requires : tie.Need-node-words-requires Inv-loop μ-loop
+node-words-requires c κs =
+    let s = c .before .before .before .before .before .before in
+    let a = s .args in
+    passed-some (nodeTest (a .matched .now)) (s .pre) (c .before .before .before .loop .inv)
 
 loop-less : tie.Need-loop-less Inv-loop μ-loop
 loop-less c = search needs
@@ -58,7 +61,7 @@ loop-again c =
     let a = s .args in
     let n = c .before .before .body-at in
     passed-more (nodeTest (a .matched .now)) (s .pre) (c .before .before .before .before .loop .inv) (c .before .before .before .loop-test .taken)
-    (n .result) (n .ensures) (c .node-least .result) (c .node-least .ensures)
+    (n .result) (n .ensures) (c .node-words .result) (c .node-words .ensures)
 
 returns : tie.Need-returns Inv-loop μ-loop
 returns c =
@@ -77,10 +80,10 @@ node-shift-spec =
     add-start
     body-at-requires
     add-end
-    sub-node-least
-    part-node-least-start
-    part-node-least-end
-    node-least-requires
+    sub-node-words
+    part-node-words-start
+    part-node-words-end
+    node-words-requires
     loop-less
     loop-again
     returns)

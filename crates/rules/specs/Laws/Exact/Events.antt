@@ -2,13 +2,14 @@
 use Prim.Native.Nat.{ℕ, zero, suc, _≤_, _<_}
 use native.Mathlib.Omega.{arith}
 use native.Mathlib.Decide.{ℕ-discrete}
-use mathlib.Core.Path.{_≡_}
+use mathlib.Core.Path.{_≡_, sym, _∙_}
 use mathlib.Core.List.{List, [], _∷_, List·Memᴰ, List·Memᴰ·head, List·Memᴰ·tail}
 use lib.ListN.{length, getD}
 use Rattle.rules.specs.Rules.{Event, hit, done}
 use Rattle.rules.specs.Sweep.{hits, Stands, lengthOf, Ordered}
 use Rattle.rules.specs.Laws.Setting.{Setting}
-use Rattle.rules.specs.Laws.Exact.Reads.{reads-eq, byteOf, stands→reads}
+use Rattle.rules.specs.Laws.Words.{word-shared}
+use Rattle.rules.specs.Laws.Exact.Reads.{reads-eq, byteOf, standing, stands-long, stands→reads}
 use Rattle.rules.specs.Laws.All.{All, all-map, all-mem}
 
 module _ (tokens : List (List ℕ)) where
@@ -49,6 +50,16 @@ module _ (tokens : List (List ℕ)) where
     }
 
     module _ {S D : ℕ} (setting : Setting tokens S D) where
+      -- Two tokens of one length that stand at one place are the same.
+      pub stands-same : (e i j : ℕ) → Stands tokens image e i → Stands tokens image e j → length (getD tokens i []) ≡ length (getD tokens j [])
+          → i ≡ j
+      stands-same e i j s q l =
+          let u : standing tokens image e i ≡ standing tokens image e j =
+          reads-eq (byteOf image) _ _ e (stands→reads tokens image e i s) (stands→reads tokens image e j q)
+          (stands-long tokens image e i s ∙ l ∙ sym (stands-long tokens image e j q)) in
+          setting .distinct i j (s .numbered) (q .numbered)
+          (word-shared (standing tokens image e i) (getD tokens i []) (getD tokens j []) (s .bytes) (rw u (q .bytes)))
+
       pub good-hit : (b i : ℕ) (es : List (Event (List ℕ))) → Stands tokens image b i → let d = length (getD tokens i []) in
           Good b d es → Good b (suc d) (hit b (suc i) ∷ es)
       good-hit b i es s g = record {
@@ -60,9 +71,7 @@ module _ (tokens : List (List ℕ)) where
           found : (j e : ℕ) → Stands tokens image e j → Later b (suc (length (getD tokens i []))) (e, suc j) → Dec (e ≡ b)
               → Dec (length (getD tokens j []) ≡ length (getD tokens i [])) → List·Memᴰ (e, suc j) ((b, suc i) ∷ hits es)
           found j e q l (yes x) (yes y) =
-              let rj = rw x at (stands→reads tokens image e j q) in
-              let ri = stands→reads tokens image b i s in
-              let same : j ≡ i = setting .distinct j i (q .numbered) (s .numbered) (reads-eq (byteOf image) _ _ b rj ri y) in
+              let same : j ≡ i = stands-same b j i (rw x at q) s y in
               let eq : _≡_ {A = ℕ × ℕ} (e, suc j) (b, suc i) = cc in
               List·Memᴰ·head eq
           found j e q l (yes x) (no y) = let t = l .1 (omega arith) in List·Memᴰ·tail (g .complete j e q (omega arith, λ _. omega arith))

@@ -9,8 +9,10 @@ use borrow.Author.Tests.{le-leb}
 use lib.ListN.{length, getD, take, drop, length-drop, length-take}
 use lib.Seq.{getD-drop, getD-take, ext-getD}
 use Rattle.rules.specs.Tokens.{ends, fromRight}
+use Rattle.rules.specs.Words.{isWord}
 use Rattle.rules.specs.Sweep.{Stands}
 use Rattle.rules.specs.Laws.Endings.{same-refl}
+use Rattle.rules.specs.Laws.Words.{word-length}
 
 module _ (img : ℕ → ℕ) where
   -- `u` stands just before place b
@@ -48,35 +50,41 @@ module _ (img : ℕ → ℕ) where
 abbrev pub byteOf : List ℕ → ℕ → ℕ
 byteOf image p = getD image p 0
 
--- A token that stands in the image with its right edge at e is read there, and the other way round.
+-- The n bytes of an image left of e, which are read there.
+module _ (image : List ℕ) (e n : ℕ) (fits : n ≤ e) (inside : e ≤ length image) where
+  abbrev under : List ℕ
+  under = take n (drop (e - n) image)
+
+  under-long : length under ≡ n
+  under-long = simp (length-take, length-drop) (omega arith)
+
+  under-reads : Reads (byteOf image) under e
+  under-reads k l =
+      let z : length under ≡ n = under-long in
+      let y : e - n + (n - 1 - k) ≡ e - 1 - k = omega arith in
+      ap (λ m. getD under (m - 1 - k) 0) z
+      ∙ getD-take n (drop (e - n) image) (n - 1 - k) 0 (omega arith) ∙ getD-drop (e - n) image (n - 1 - k) 0 ∙ ap (byteOf image) y
+
+  -- what is read there is these
+  pub reads-under : (u : List ℕ) → length u ≡ n → Reads (byteOf image) u e → u ≡ take n (drop (e - n) image)
+  reads-under u l r = reads-eq (byteOf image) u under e r under-reads (l ∙ sym under-long)
+
+-- The word of a token that stands in the image with its right edge at e is read there, and the other way round.
 module _ (tokens : List (List ℕ)) (image : List ℕ) (e i : ℕ) where
-  abbrev t : List ℕ
-  t = getD tokens i []
+  -- the bytes of the image where it stands
+  abbrev pub standing : List ℕ
+  standing = take (length (getD tokens i [])) (drop (e - length (getD tokens i [])) image)
 
-  pub stands→reads : Stands tokens image e i → Reads (byteOf image) (getD tokens i []) e
-  stands→reads s k h =
-      let z : e - length t + (length t - 1 - k) ≡ e - 1 - k = omega arith in
-      ap (λ (l : List ℕ). getD l (length t - 1 - k) 0) (sym (s .bytes))
-      ∙ getD-take (length t) (drop (e - length t) image) (length t - 1 - k) 0 (omega arith)
-      ∙ getD-drop (e - length t) image (length t - 1 - k) 0
-      ∙ ap (byteOf image) z
+  module _ (s : Stands tokens image e i) where
+    pub stands-long : length standing ≡ length (getD tokens i [])
+    stands-long = under-long image e (length (getD tokens i [])) (s .fits) (s .inside)
 
-  pub reads→stands : i < length tokens → length (getD tokens i []) ≤ e → e ≤ length image → Reads (byteOf image) (getD tokens i []) e
-      → Stands tokens image e i
-  reads→stands i< h n r = record {
-    numbered = i<;
-    fits = h;
-    inside = n;
-    bytes = ext-getD 0 (take (length t) (drop (e - length t) image)) t l (λ j j<. at j (omega (arith, l)));
-  }
-    where
-      l : length (take (length t) (drop (e - length t) image)) ≡ length t
-      l = simp (length-take, length-drop) (omega arith)
+    pub stands→reads : Reads (byteOf image) standing e
+    stands→reads = under-reads image e (length (getD tokens i [])) (s .fits) (s .inside)
 
-      at : (j : ℕ) → j < length t → getD (take (length t) (drop (e - length t) image)) j 0 ≡ getD t j 0
-      at j j< =
-          let z : e - length t + j ≡ e - 1 - (length t - 1 - j) = omega arith in
-          getD-take (length t) (drop (e - length t) image) j 0 j<
-          ∙ getD-drop (e - length t) image j 0
-          ∙ ap (byteOf image) z
-          ∙ sym (reads-at (byteOf image) t e r j j<)
+  pub reads→stands : i < length tokens → length (getD tokens i []) ≤ e → e ≤ length image
+      → (u : List ℕ) → isWord u (getD tokens i []) ≡ true → Reads (byteOf image) u e → Stands tokens image e i
+  reads→stands i< h n u w r =
+      let t = getD tokens i [] in
+      let q : u ≡ standing = reads-under image e (length t) h n u (word-length u t w) r in
+      record { numbered = i<; fits = h; inside = n; bytes = rw (← q) w }

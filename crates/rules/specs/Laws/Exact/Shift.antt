@@ -1,29 +1,29 @@
--- Rule 5 skips no occurrence: the shift is at least 1, at most S, and no more than the way to the end of any token that stands further right.
+-- Rule 5 skips no occurrence: the shift is at least 1, at most S, and no more than the way to the end of any word that stands further right.
 use Prim.Native.Nat.{ℕ, _+_, _-_, _≤_, _<_}
 use native.Mathlib.Omega.{arith}
 use native.Mathlib.Nat.{le-trans}
 use mathlib.Core.Path.{_≡_, ap, sym, _∙_}
-use mathlib.Core.Bool.{true}
-use mathlib.Core.List.{List, []}
+use mathlib.Core.Bool.{Bool, true}
+use mathlib.Core.List.{List}
 use mathlib.Core.Option.{Option, some, none}
 use borrow.Author.Tests.{leb-false, eq-eqb}
 use lib.Dec.{leb}
-use lib.ListN.{length, getD}
+use lib.ListN.{length}
 use Rattle.rules.specs.Lists.{anyOf, every}
 use Rattle.rules.specs.Tokens.{agrees, fromRight, nodeShift, byteShift, shiftOf}
-use Rattle.rules.specs.Laws.Tests.{anyOf-in, every-all, or-r, least-le, least-ge, least-upto}
+use Rattle.rules.specs.Laws.Tests.{every-all, or-r, least-le, least-ge, least-upto}
 use Rattle.rules.specs.Laws.Exact.Reads.{Reads}
 
-pub shift-ge : (tokens : List (List ℕ)) (S : ℕ) (u : List ℕ) (o : Option ℕ) → 1 ≤ shiftOf tokens S u o
-shift-ge tokens S u o = omega (arith, least-ge (λ s. anyOf (λ t. every (length u) (λ k. agrees t s k (fromRight u k))) tokens) 1 (S - 1))
+pub shift-ge : (words : List (List ℕ)) (S : ℕ) (u : List ℕ) (o : Option ℕ) → 1 ≤ shiftOf words S u o
+shift-ge words S u o = omega (arith, least-ge (λ s. anyOf (λ t. every (length u) (λ k. agrees t s k (fromRight u k))) words) 1 (S - 1))
 
-pub shift-upto : (tokens : List (List ℕ)) (S : ℕ) → 1 ≤ S → (u : List ℕ) (o : Option ℕ) → shiftOf tokens S u o ≤ S
-shift-upto tokens S h u o = omega (arith, node, byte o)
+pub shift-upto : (words : List (List ℕ)) (S : ℕ) → 1 ≤ S → (u : List ℕ) (o : Option ℕ) → shiftOf words S u o ≤ S
+shift-upto words S h u o = omega (arith, node, byte o)
   where
-    node : nodeShift tokens S u ≤ S
+    node : nodeShift words S u ≤ S
     node = le-trans (least-upto _ 1 (S - 1)) (omega arith)
 
-    byte : (o : Option ℕ) → byteShift tokens S (length u) o ≤ S
+    byte : (o : Option ℕ) → byteShift words S (length u) o ≤ S
     byte none = h
     byte (some x) = le-trans (least-upto _ 1 (S - 1)) (omega arith)
 
@@ -40,16 +40,17 @@ module _ (img : ℕ → ℕ) where
       let z : e - 1 - (k + (e - b)) ≡ b - 1 - k = omega arith in
       eq-eqb _ _ (r (k + (e - b)) l ∙ ap img z ∙ sym q)
 
-  module _ (tokens : List (List ℕ)) (S b e i : ℕ) (h : b < e) (i< : i < length tokens) (r : Reads img (getD tokens i []) e) where
-    node-le : (u : List ℕ) → Reads img u b → nodeShift tokens S u ≤ e - b
+  -- w is one of the words, and stands before e
+  module _ (words : List (List ℕ)) (S b e : ℕ) (h : b < e) (w : List ℕ) (among : (p : List ℕ → Bool) → p w ≡ true → anyOf p words ≡ true)
+      (r : Reads img w e) where
+    node-le : (u : List ℕ) → Reads img u b → nodeShift words S u ≤ e - b
     node-le u q =
         least-le _ 1 (S - 1) (e - b) (omega arith)
-        (anyOf-in _ tokens [] i i< (every-all (length u) _ λ k k<. agrees-read (getD tokens i []) b e k (fromRight u k) r h (q k k<)))
+        (among _ (every-all (length u) _ λ k k<. agrees-read w b e k (fromRight u k) r h (q k k<)))
 
-    byte-le : (d : ℕ) (o : Option ℕ) → Known (b - 1 - d) o → byteShift tokens S d o ≤ e - b
+    byte-le : (d : ℕ) (o : Option ℕ) → Known (b - 1 - d) o → byteShift words S d o ≤ e - b
     byte-le d none q = omega arith
-    byte-le d (some x) q =
-        least-le _ 1 (S - 1) (e - b) (omega arith) (anyOf-in _ tokens [] i i< (agrees-read (getD tokens i []) b e d x r h q))
+    byte-le d (some x) q = least-le _ 1 (S - 1) (e - b) (omega arith) (among _ (agrees-read w b e d x r h q))
 
-    pub shift-le : (u : List ℕ) (o : Option ℕ) → Reads img u b → Known (b - 1 - length u) o → shiftOf tokens S u o ≤ e - b
+    pub shift-le : (u : List ℕ) (o : Option ℕ) → Reads img u b → Known (b - 1 - length u) o → shiftOf words S u o ≤ e - b
     shift-le u o q k = omega (arith, node-le u q, byte-le (length u) o k)

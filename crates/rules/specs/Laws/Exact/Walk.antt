@@ -2,23 +2,25 @@
 use Prim.Native.Nat.{ℕ, zero, suc, _+_, _-_, _≤_, _<_}
 use native.Mathlib.Omega.{arith}
 use native.Mathlib.Nat.{lt-of-not-le}
-use mathlib.Core.Path.{_≡_, refl, ap, sym, subst, _∙_}
-use mathlib.Core.Bool.{true, _&&_, _||_}
+use mathlib.Core.Path.{_≡_, refl, sym, subst, _∙_}
+use mathlib.Core.Bool.{Bool, true, _&&_, _||_}
 use mathlib.Core.List.{List, [], _∷_, _++_, append-assoc}
 use mathlib.Core.Option.{Option, some, none}
-use borrow.Author.Tests.{leb-true, lt-ltb, ne-eqb}
+use borrow.Author.Tests.{lt-ltb, ne-eqb}
 use lib.Dec.{ltb, eqb}
 use lib.ListN.{length, getD, drop, length-drop}
 use Rattle.rules.specs.Rules.{Event, recalled, hit, shifted, Config, Step, Next, finished, wants, goes, place, hitAt, deeper, hitsUp, recall, endRound, taken, takeByte, look, next}
 use Rattle.rules.specs.Tokens.{ofTokens, ends}
-use Rattle.rules.specs.Lists.{anyOf, numberFrom}
+use Rattle.rules.specs.Lists.{anyOf}
+use Rattle.rules.specs.Words.{isWord, numberOf, allWords}
 use Rattle.rules.specs.Sweep.{Stands}
-use Rattle.rules.specs.Laws.Tests.{decide, clash, and-l, anyOf-in, anyOf-out, next-cases}
-use Rattle.rules.specs.Laws.Endings.{Numbered, numbered}
+use Rattle.rules.specs.Laws.Tests.{decide, clash, next-cases}
+use Rattle.rules.specs.Laws.Endings.{ends-shorter}
+use Rattle.rules.specs.Laws.Words.{word-length, word-in, Passing, word-out, Numbered, numbered}
 use Rattle.rules.specs.Laws.Setting.{Setting}
 use Rattle.rules.specs.Laws.Hits.{end-events}
 use Rattle.rules.specs.Laws.Limit.Ends.{stepsLeft, less-end, less-deeper}
-use Rattle.rules.specs.Laws.Exact.Reads.{Reads, reads-eq, reads-drop, reads-cons, reads-ends, byteOf, stands→reads, reads→stands}
+use Rattle.rules.specs.Laws.Exact.Reads.{Reads, reads-eq, reads-drop, reads-cons, reads-ends, byteOf, standing, stands-long, stands→reads, reads→stands}
 use Rattle.rules.specs.Laws.Exact.Shift.{Known, shift-ge, shift-le}
 use Rattle.rules.specs.Laws.Exact.Configs.{Inv, end-inv, recall-known}
 use Rattle.rules.specs.Laws.Exact.Events.{Later, Good, good-event, good-weaken, good-hit}
@@ -53,17 +55,21 @@ module _ (tokens : List (List ℕ)) (S D : ℕ) (setting : Setting tokens S D) (
             l .0,
             λ z.
                 let here : e ≡ b = omega (arith, l .0) in
-                let reads = rw here at (stands→reads tokens image e i s) in
+                let q′ = rw here at s in
                 let ne : length (getD tokens i []) ≡ suc k → ⊥ =
-                λ y. q i (s .numbered) (reads-eq (byteOf image) _ last b reads (reads-drop (byteOf image) (length u - suc k) u b r) (omega (arith, size))) in
+                λ y.
+                let x : standing tokens image b i ≡ last =
+                reads-eq (byteOf image) _ last b (stands→reads tokens image b i q′) (reads-drop (byteOf image) (length u - suc k) u b r)
+                (stands-long tokens image b i q′ ∙ y ∙ sym size) in
+                q i (s .numbered) (rw (← x) (q′ .bytes)) in
                 omega (arith, l .1 z),
           ))
           (λ x l. (l .0, λ z. omega (arith, l .1 z))) g
       last-good (suc m) q =
           let z : suc m - 1 ≡ m = omega arith in
-          let t : getD tokens m [] ≡ last = rw z at (q .2) in
-          let l : length (getD tokens m []) ≡ suc k = ap length t ∙ size in
-          let s = reads→stands tokens image b m (omega (arith, q .1)) (omega arith) h (rw t (reads-drop (byteOf image) (length u - suc k) u b r)) in
+          let w : isWord last (getD tokens m []) ≡ true = rw z at (q .2) in
+          let l : length (getD tokens m []) ≡ suc k = sym (word-length last (getD tokens m []) w) ∙ size in
+          let s = reads→stands tokens image b m (omega (arith, q .1)) (omega arith) h last w (reads-drop (byteOf image) (length u - suc k) u b r) in
           subst (λ n. Good tokens image b (suc n) (hit b (suc m) ∷ rest)) l
           (good-hit tokens image setting b m rest s (subst (λ n. Good tokens image b n rest) (sym l) g))
 
@@ -72,8 +78,12 @@ module _ (tokens : List (List ℕ)) (S D : ℕ) (setting : Setting tokens S D) (
     ups-good zero k≤ rest g = g
     ups-good (suc k) k≤ rest g =
         let last = drop (length u - suc k) u in
-        subst (Good tokens image b (suc (suc k))) (sym (append-assoc (hitAt b (numberFrom 1 last tokens)) (hitsUp (ofTokens tokens S) b u k) rest))
-        (last-good k k≤ _ (ups-good k (omega arith) rest g) (numberFrom 1 last tokens) (numbered last 1 tokens (omega arith)))
+        subst (Good tokens image b (suc (suc k))) (sym (append-assoc (hitAt b (numberOf tokens last)) (hitsUp (ofTokens tokens S) b u k) rest))
+        (last-good k k≤ _ (ups-good k (omega arith) rest g) (numberOf tokens last) (numbered last 1 tokens (omega arith)))
+
+  -- a test that the word which stands here passes
+  among : (i e : ℕ) → Stands tokens image e i → (p : List ℕ → Bool) → p (standing tokens image e i) ≡ true → anyOf p (allWords tokens) ≡ true
+  among i e s p = word-in p tokens i (standing tokens image e i) (s .numbered) (s .bytes)
 
   module _ (c : Config (List ℕ)) (v : Inv (byteOf image) D c) (h : c .boundary ≤ length image) where
     -- A round may end where each token that stands here is no longer than what is matched.
@@ -95,7 +105,7 @@ module _ (tokens : List (List ℕ)) (S D : ℕ) (setting : Setting tokens S D) (
         b′ = endRound (ofTokens tokens S) c o .config .boundary
 
         up : 1 ≤ ofTokens tokens S .shift (c .node) o
-        up = shift-ge tokens S (c .node) o
+        up = shift-ge (allWords tokens) S (c .node) o
 
         here : (i e : ℕ) → Stands tokens image e i → Later tokens (c .boundary) (suc D) (e, suc i) → Later tokens (c .boundary) (suc (c .depth)) (e, suc i)
         here i e s l = (l .0, λ k. let x : e ≡ c .boundary = omega (arith, l .0) in omega (arith, stop i (rw x at s)))
@@ -104,14 +114,20 @@ module _ (tokens : List (List ℕ)) (S D : ℕ) (setting : Setting tokens S D) (
         on i e s l =
             let far : c .boundary < e = lt-of-not-le (λ k. omega (arith, l .1 k, setting .shortest i (s .numbered), setting .positive)) in
             let r = stands→reads tokens image e i s in (
-              omega (arith, shift-le (byteOf image) tokens S (c .boundary) e i far (s .numbered) r (c .node) o (v .reads) (rw (v .deep) at known)),
+              omega (
+                arith,
+                shift-le (byteOf image) (allWords tokens) S (c .boundary) e far (standing tokens image e i) (among i e s) r (c .node) o (v .reads)
+                    (rw (v .deep) at known),
+              ),
               λ _. omega (arith, setting .longest i (s .numbered)),
             )
 
-    -- What is matched ends each token that stands here and is as long.
-    ends-here : (u : List ℕ) → Reads (byteOf image) u (c .boundary) → (i : ℕ) → Stands tokens image (c .boundary) i
-        → length u ≤ length (getD tokens i []) → ends u (getD tokens i []) ≡ true
-    ends-here u r i s = reads-ends (byteOf image) u (getD tokens i []) (c .boundary) r (stands→reads tokens image (c .boundary) i s)
+    -- What is matched ends each word that stands here and is as long.
+    ends-here : (u : List ℕ) → Reads (byteOf image) u (c .boundary) → (i : ℕ) → (s : Stands tokens image (c .boundary) i)
+        → length u ≤ length (getD tokens i []) → ends u (standing tokens image (c .boundary) i) ≡ true
+    ends-here u r i s h =
+        reads-ends (byteOf image) u (standing tokens image (c .boundary) i) (c .boundary) r (stands→reads tokens image (c .boundary) i s)
+        (omega (arith, stands-long tokens image (c .boundary) i s))
 
     -- Rule 2 ends a round only where it may.
     leaf-stop : (ofTokens tokens S .leaf (c .node) || eqb (c .depth) (c .boundary)) ≡ true → (i : ℕ) → Stands tokens image (c .boundary) i
@@ -120,9 +136,10 @@ module _ (tokens : List (List ℕ)) (S D : ℕ) (setting : Setting tokens S D) (
         let no-more : c .depth < length (getD tokens i []) → ⊥ = λ k.
         clash _ t
         (cc (
-          anyOf-in (λ t. ltb (length (c .node)) (length t) && ends (c .node) t) tokens [] i (s .numbered)
+          among i (c .boundary) s (λ t. ltb (length (c .node)) (length t) && ends (c .node) t)
               (cc (
-                lt-ltb (length (c .node)) (length (getD tokens i [])) (omega (arith, v .deep)),
+                lt-ltb (length (c .node)) (length (standing tokens image (c .boundary) i))
+                    (omega (arith, v .deep, stands-long tokens image (c .boundary) i s)),
                 ends-here (c .node) (v .reads) i s (omega (arith, v .deep)),
               )),
           ne-eqb (c .depth) (c .boundary) (omega (arith, s .fits)),
@@ -133,23 +150,27 @@ module _ (tokens : List (List ℕ)) (S D : ℕ) (setting : Setting tokens S D) (
       grown-reads : Reads (byteOf image) (x ∷ c .node) (c .boundary)
       grown-reads = reads-cons (byteOf image) x (c .node) (c .boundary) (v .reads) (rw (v .deep) at x≡)
 
-      -- A byte that some token goes on with.
-      deeper-inv : (i : ℕ) → i < length tokens → ends (x ∷ c .node) (getD tokens i []) ≡ true
-          → Inv (byteOf image) D (deeper c (x ∷ c .node))
-      deeper-inv i i< e = record {
+      -- A byte that some word goes on with.
+      deeper-inv : Passing (ends (x ∷ c .node)) tokens → Inv (byteOf image) D (deeper c (x ∷ c .node))
+      deeper-inv r = record {
         deep = omega (arith, v .deep);
         inside = omega arith;
-        short = omega (arith, leb-true (suc (length (c .node))) (length (getD tokens i [])) (and-l _ _ e), setting .longest i i<, v .deep);
+        short = omega (
+          arith,
+          ends-shorter (x ∷ c .node) (r .word) (r .passes),
+          word-length (r .word) (getD tokens (r .number) []) (r .of),
+          setting .longest (r .number) (r .inside),
+          v .deep,
+        );
         reads = grown-reads;
         holds = v .holds;
       }
 
       take-good : StepGood tokens D image c (takeByte (ofTokens tokens S) c x)
       take-good =
-          decide (λ o. StepGood tokens D image c (taken (ofTokens tokens S) c x o)) (anyOf (ends (x ∷ c .node)) tokens) _ _
+          decide (λ o. StepGood tokens D image c (taken (ofTokens tokens S) c x o)) (anyOf (ends (x ∷ c .node)) (allWords tokens)) _ _
           (λ t.
-          let r = anyOf-out (ends (x ∷ c .node)) tokens [] t in
-          let w = deeper-inv (r .0) (r .1) (r .2) in
+          let w = deeper-inv (word-out (ends (x ∷ c .node)) tokens t) in
           record {
             inv = w;
             less = less-deeper (length image) D (c .boundary) (c .depth) h (w .short);
@@ -157,7 +178,7 @@ module _ (tokens : List (List ℕ)) (S D : ℕ) (setting : Setting tokens S D) (
           })
           (λ f. end-good (some x) x≡ λ i s.
           let no-more : c .depth < length (getD tokens i []) → ⊥ = λ k.
-          clash _ (anyOf-in (ends (x ∷ c .node)) tokens [] i (s .numbered) (ends-here (x ∷ c .node) grown-reads i s (omega (arith, v .deep)))) f in
+          clash _ (among i (c .boundary) s (ends (x ∷ c .node)) (ends-here (x ∷ c .node) grown-reads i s (omega (arith, v .deep)))) f in
           omega arith)
 
     look-good : c .depth < c .boundary → (o : Option ℕ) → Known (byteOf image) (place c) o → NextGood c (look (ofTokens tokens S) c o)

@@ -1,4 +1,4 @@
--- `lower` meets its contract: a token is spelled, and searched for below the best so far.
+-- `lower` meets its contract: a word is spelled, and searched for below the best so far.
 use Prim.Native.Nat.{_-_}
 use mathlib.Core.Path.{ap, _∙_}
 use lib.ListN.{length}

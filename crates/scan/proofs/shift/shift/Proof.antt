@@ -1,4 +1,4 @@
--- `shift` meets its contract: the matched bytes are spelled, and the tokens searched for the two shifts.
+-- `shift` meets its contract: the matched bytes are spelled, and the words searched for the two shifts.
 use native.Mathlib.Omega.{arith}
 use mathlib.Core.Path.{refl, ap}
 use mathlib.Core.Option.{some, none}

@@ -1,14 +1,17 @@
 -- `fill` meets its contract: the tables hold the tokens so far, and the records left stand from here on (`Filling`).
-use Prim.Native.Nat.{_+_, _-_, _<_, _≤_}
+use Prim.Native.Nat.{ℕ, _+_, _-_, _<_, _≤_}
 use native.Mathlib.Omega.{arith}
-use mathlib.Core.Path.{refl, _∙_}
+use mathlib.Core.Path.{_≡_, refl, _∙_}
 use borrow.Author.Needs.{needs}
-use lib.ListN.{length, length-set}
+use lib.ListN.{length, take, drop, length-set}
+use Rattle.rules.specs.Words.{wordsOf}
+use Rattle.rules.specs.Tokens.{total}
+use Rattle.book.specs.Book.{wholeAt}
 use Rattle.tables.specs.Tables.{Tables}
 use Rattle.trie.specs.Answers.{tables}
 use Rattle.trie.specs.InPlace.{Room, Ready}
 use Rattle.trie.specs.Laws.Over.{Kept}
-use Rattle.trie.specs.Laws.TokensInPlace.{Filling, rooted, fill-room, fill-kept, fill-first, fill-ready, fill-on, fill-done}
+use Rattle.trie.specs.Laws.TokensInPlace.{Fillable, Filling, rooted, fill-room, fill-kept, fill-first, fill-inside, fill-ready, fill-on, fill-done}
 use Rattle.trie.proofs.fill.fill.Statement.{statement}
 use Rattle.trie.proofs.fill.fill.Tie as tie
 
@@ -30,28 +33,32 @@ start c = c .before .before .before .before .before .before .before
 abbrev held : tie.At-loop Inv-loop μ-loop → Tables
 held c = tables (c .loop .parent) (c .loop .label) (c .loop .token) (c .loop .first) (c .loop .next)
 
+asked : (c : tie.Start Inv-loop μ-loop) → Fillable (c .args .book .now) (lent c) (c .args .many)
+asked c = c .pre
+
 room : (c : tie.Start Inv-loop μ-loop) → Room (lent c) 1
-room c = fill-room (c .args .book .now) (lent c) (c .args .many) (c .pre)
+room c = fill-room (c .args .book .now) (lent c) (c .args .many) (asked c)
 
--- the next record is whole, and there is room for its body
-ready : (c : tie.After-body-at Inv-loop μ-loop) → let o = c .before .before .loop in let b = start (c .before .before) in
-    Ready (held (c .before .before)) (o .count) 0 (c .body-at .result)
-    × (o .at + 1 + c .body-at .result ≤ length (b .args .book .now)) × (o .number < 65536)
-ready c =
-    let o = c .before .before .loop in
-    let b = start (c .before .before) in
-    fill-ready (b .args .book .now) (rooted (lent b)) (b .args .many) (held (c .before .before)) (o .count) (o .at) (o .number) (o .inv)
-    (c .before .loop-test .taken) (c .body-at .result) (c .body-at .ensures)
+-- the next record is whole, and there is room for its words
+module _ (c : tie.In-loop Inv-loop μ-loop) (len : ℕ) (e : len ≡ wholeAt (start (c .before) .args .book .now) (c .before .loop .at)) where
+  abbrev o : tie.At-loop Inv-loop μ-loop
+  o = c .before
 
-kept : (c : tie.At-loop Inv-loop μ-loop) → Kept (rooted (lent (start c))) (held c)
-kept c =
-    let b = start c in
-    fill-kept (b .args .book .now) (rooted (lent b)) (b .args .many) (held c) (c .loop .count) (c .loop .at) (c .loop .number) (c .loop .inv)
+  inside : o .loop .at + 1 + len ≤ length (start o .args .book .now)
+  inside =
+      fill-inside (start o .args .book .now) _ (start o .args .many) (held o) (o .loop .count) (o .loop .at) (o .loop .number)
+      (o .loop .inv) (c .loop-test .taken) len e
+
+  ready : Ready (held o) (o .loop .count) 0 (total (wordsOf (take (o .loop .at + 1 + len - (o .loop .at + 1)) (drop (o .loop .at + 1) (start o .args .book .now)))))
+      × (o .loop .number < 65536)
+  ready =
+      fill-ready (start o .args .book .now) _ (start o .args .many) (held o) (o .loop .count) (o .loop .at) (o .loop .number)
+      (o .loop .inv) (c .loop-test .taken) len e
 
 -- where a turn's record was found, from its end
 abbrev turn : tie.After-slice-known10 Inv-loop μ-loop → tie.After-body-at Inv-loop μ-loop
 turn c =
-    c .before .before .before .before .before .before .before .before .before .before .before .before .before .before .before .before
+    c .before .before .before .before .before .before .before .before .before .before .before .before .before .before .before .before .before
 
 slice-write-parent : tie.Need-slice-write-parent Inv-loop μ-loop
 slice-write-parent c = room (c .before .before .before .before .before .before) .parents
@@ -70,22 +77,22 @@ slice-write-next c = room (c .before .before .before .before .before .before) .n
 
 loop-holds : tie.Need-loop-holds Inv-loop μ-loop
 loop-holds c = let b = c .before .before .before .before .before .before in
-    fill-first (b .args .book .now) (lent b) (b .args .many) (b .pre)
+    fill-first (b .args .book .now) (lent b) (b .args .many) (asked b)
 
-add-insert : tie.Need-add-insert Inv-loop μ-loop
-add-insert c = omega (arith, ready c .1, start (c .before .before) .good)
+add-start : tie.Need-add-start Inv-loop μ-loop
+add-start c = omega (arith, inside c _ refl, start (c .before) .good)
 
-insert-requires : tie.Need-insert-requires Inv-loop μ-loop
-insert-requires c κs = ready (c .before .before .before .before .before)
+add-end : tie.Need-add-end Inv-loop μ-loop
+add-end c = omega (arith, inside (c .before) _ (c .body-at .ensures), start (c .before .before) .good)
 
-add-at : tie.Need-add-at Inv-loop μ-loop
-add-at c = let d = turn c in omega (arith, ready d .1, start (d .before .before) .good)
+part-body-end : tie.Need-part-body-end Inv-loop μ-loop
+part-body-end c = omega (arith, inside (c .before) _ (c .body-at .ensures))
 
-add-at-2 : tie.Need-add-at-2 Inv-loop μ-loop
-add-at-2 c = let d = turn c in omega (arith, ready d .1, start (d .before .before) .good)
+insert-words-requires : tie.Need-insert-words-requires Inv-loop μ-loop
+insert-words-requires c κs = let d = c .before .before .before .before .before .before in ready (d .before) (d .body-at .result) (d .body-at .ensures)
 
 add-number : tie.Need-add-number Inv-loop μ-loop
-add-number c = omega (arith, ready (turn c) .2)
+add-number c = let d = turn c in omega (arith, ready (d .before) _ (d .body-at .ensures) .1)
 
 loop-less : tie.Need-loop-less Inv-loop μ-loop
 loop-less c = omega (arith, turn c .before .loop-test .taken)
@@ -95,10 +102,15 @@ loop-again c = let a = c .before .before .before .before .before .before .before
     let d = turn c in
     let o = d .before .before .loop in
     let b = start (d .before .before) in
-    let l = a .insert .last .1 .1 .1 in
+    let l = a .insert-words .last .1 in
     fill-on (b .args .book .now) (rooted (lent b)) (b .args .many) (held (d .before .before)) (o .count) (o .at) (o .number) (o .inv)
     (d .before .loop-test .taken) (d .body-at .result) (d .body-at .ensures)
-    (record { tables = tables (l .0) (l .1 .0) (l .1 .1 .0) (l .1 .1 .1 .0) (l .1 .1 .1 .1 .0); count = a .insert .result }) (a .insert .ensures)
+    (record { tables = tables (l .0) (l .1 .0) (l .1 .1 .0) (l .1 .1 .1 .0) (l .1 .1 .1 .1 .0); count = a .insert-words .result }) (a .insert-words .ensures)
+
+kept : (c : tie.At-loop Inv-loop μ-loop) → Kept (rooted (lent (start c))) (held c)
+kept c =
+    let b = start c in
+    fill-kept (b .args .book .now) (rooted (lent b)) (b .args .many) (held c) (c .loop .count) (c .loop .at) (c .loop .number) (c .loop .inv)
 
 same-length : tie.Need-same-length Inv-loop μ-loop
 same-length c = kept (c .before) .parents ∙ length-set (start (c .before) .args .parent .now) 0 0
@@ -133,11 +145,13 @@ fill-spec =
     slice-write-first
     slice-write-next
     loop-holds
+    add-start
     (λ c κs. search needs)
-    add-insert
-    insert-requires
-    add-at
-    add-at-2
+    add-end
+    (λ c. search needs)
+    (λ c. search needs)
+    part-body-end
+    insert-words-requires
     add-number
     loop-less
     loop-again

@@ -1,33 +1,21 @@
--- `repeats::equal` meets its contract. The loop's invariant: the two are the same if what is left of them is.
+-- `words::equal` meets its contract. The loop's invariant: the two are the same if what is left of them is.
 use borrow.Author.Needs.{needs}
-use borrow.Author.Tests.{eq-eqb, ne-eqb}
-use Prim.Native.Nat.{ℕ, _+_, _-_, _≤_, _<_}
-use native.Mathlib.Numerals.{add-one}
+use Prim.Native.Nat.{_-_, _≤_}
 use native.Mathlib.Omega.{arith}
-use mathlib.Core.Bool.{false}
-use mathlib.Core.List.{List}
 use mathlib.Core.Path.{_≡_, refl, ap, sym, _∙_}
-use lib.ListN.{length, getD, drop, drop-of-length-le}
-use lib.Seq.{drop-cons}
+use lib.ListN.{length, drop, drop-of-length-le}
 use Rattle.rules.specs.Lists.{same}
 use Rattle.rules.specs.Laws.Tests.{false-test}
 use Rattle.rules.specs.Laws.Endings.{same→eq}
-use Rattle.book.proofs.repeats.equal.Statement.{statement}
-use Rattle.book.proofs.repeats.equal.Tie as tie
+use Rattle.book.proofs.Laws.Words.{differs, agrees}
+use Rattle.book.proofs.words.equal.Statement.{statement}
+use Rattle.book.proofs.words.equal.Tie as tie
 
 abbrev Inv-loop : tie.InvT-loop
 Inv-loop a b i₀ i = (i ≤ length a) × (same (drop i a) (drop i b) ≡ same a b)
 
 abbrev μ-loop : tie.MeasureT-loop
 μ-loop a b i₀ i = length a - i
-
--- one byte of each
-module _ (a b : List ℕ) (i : ℕ) (h : i < length a) (k : i < length b) where
-  differs : (getD a i 0 ≡ getD b i 0 → ⊥) → same (drop i a) (drop i b) ≡ false
-  differs n = rw (drop-cons a i 0, drop-cons b i 0) (cc (ne-eqb (getD a i 0) (getD b i 0) n))
-
-  agrees : getD a i 0 ≡ getD b i 0 → same (drop i a) (drop i b) ≡ same (drop (i + 1) a) (drop (i + 1) b)
-  agrees e = rw (add-one, drop-cons a i 0, drop-cons b i 0) (cc (eq-eqb (getD a i 0) (getD b i 0) e))
 
 returns : tie.Need-returns Inv-loop μ-loop
 returns c =

@@ -1,4 +1,4 @@
--- The bytes of one token: `inserted` keeps the shape and the nodes there were, and adds endings of that token alone, in order.
+-- The bytes of one word: `inserted` keeps the shape and the nodes there were, and adds endings of that word alone, in order.
 use Prim.Native.Nat.{ℕ, suc, _+_, _≤_, _<_}
 use native.Mathlib.Omega.{arith}
 use mathlib.Core.Path.{_≡_, refl, ap, _∙_}
