@@ -16,6 +16,7 @@ typedef struct {
 } told;
 
 told probe_read(const uint8_t *book, size_t book_len);
+told probe_fit(const uint8_t *book, size_t book_len, const uint8_t *image, size_t image_len, size_t number, size_t end);
 told probe_merge(const uint8_t *first, size_t first_len, const uint8_t *second, size_t second_len, uint8_t *out, size_t out_len);
 told probe_build(const uint8_t *book, size_t book_len, TABLES(uint16_t, uint8_t));
 told probe_test(READ, size_t count);

@@ -1,4 +1,5 @@
-/* Times reading a book, building its tables and testing them, beside a plain pass over the same data, in one run. */
+/* Times reading a book, building its tables and testing them, beside a plain pass over the same data, and laying its last token over the
+   longest image, beside reading and comparing, in one run. */
 #include "common.h"
 
 static void pass_book(void) { pass_bytes(book, book_len); }
@@ -23,18 +24,44 @@ static void make_alike(void) {
 
 static void read_book(void) { sink = probe_read(book, book_len).numbers[0]; }
 
+/* The last token of the book, at the image's end, where it fits; and its bytes, compared plainly from the right. */
+static uint8_t image[16777216];
+static size_t last, last_size;
+
+static void fit_last(void) { sink = probe_fit(book, book_len, image, sizeof image, last, sizeof image).kind; }
+
+static void compare_last(void) {
+    const uint8_t *body = book + book_len - 1 - last_size, *under = image + sizeof image - last_size;
+    size_t k = last_size;
+    while (k != 0 && body[k - 1] == under[k - 1]) k--;
+    sink = k;
+}
+
+static void lay_last(size_t count, size_t size) {
+    memcpy(image + sizeof image - size, book + book_len - 1 - size, size);
+    last = count;
+    last_size = size;
+    fit_last();
+    if (sink != 1) {
+        fprintf(stderr, "the token does not fit\n");
+        exit(1);
+    }
+}
+
 static void row(size_t count, size_t size, const char *kind) {
-    static void (*const runs[])(void) = {pass_book, read_book, build_tables, pass_tables, test_tables};
-    double took[5];
+    static void (*const runs[])(void) = {pass_book, read_book, build_tables, pass_tables, test_tables, fit_last, compare_last};
+    double took[7];
     build_tables();
-    least(runs, took, 5);
-    printf("%4zu x %-5zu%-6s %7zu %9.3f us %5.2f %9.3f us %5.2f %9.3f us %5.2f\n", count, size, kind, nodes, took[1] * 1e6, took[1] / took[0],
-           took[2] * 1e6, took[2] / took[0], took[4] * 1e6, took[4] / took[3]);
+    lay_last(count, size);
+    least(runs, took, 7);
+    printf("%4zu x %-5zu%-6s %7zu %9.3f us %5.2f %9.3f us %5.2f %9.3f us %5.2f %9.3f us %5.2f\n", count, size, kind, nodes, took[1] * 1e6,
+           took[1] / took[0], took[2] * 1e6, took[2] / took[0], took[4] * 1e6, took[4] / took[3], took[5] * 1e6,
+           took[5] / (took[1] + took[6]));
 }
 
 int main(void) {
     static const size_t cases[][2] = {{256, 64}, {16, 1024}, {256, 8}, {256, 7}, {1, 5}};
-    printf("%-18s %7s %18s %18s %18s\n", "book", "nodes", "read/pass", "build/pass", "test/pass");
+    printf("%-18s %7s %18s %18s %18s %18s\n", "book", "nodes", "read/pass", "build/pass", "test/pass", "fit/read+cmp");
     for (size_t i = 0; i < sizeof cases / sizeof *cases; i++) {
         make_book(cases[i][0], cases[i][1]);
         row(cases[i][0], cases[i][1], "");

@@ -1,7 +1,7 @@
 #!/usr/bin/env python3
 """Compares the proved calls with the plain readings of the papers: every answer, and all that the lent tables and states then hold, with
-what lies around them. The books of books.py and the states of steps.py come first, and must be as many as COUNTS says and meet all that
-`wanted` names in either; then fresh random ones. Fails at the first difference and says where.
+what lies around them. The books of books.py, the states of steps.py and the images of fits.py come first, and must be as many as COUNTS
+says and meet all that `wanted` names in each; then fresh random ones. Fails at the first difference and says where.
 
   plain/calls.py            with a new seed, which it prints
   plain/calls.py --seed N   the random cases of that seed again
@@ -12,19 +12,21 @@ import random
 import sys
 
 import books
+import fits
 import proved
 import steps
 import tables
+from fits import FAR
 from proved import BYTES, ENTRIES, NUMBERS, Byte, Lent
 
-COUNTS = (813, 2108, 27412)  # books, states, and steps from them
-FRESH = (3000, 2000, 800)  # random books, states, and whole sweeps
+COUNTS = (813, 2108, 27412, 9969, 67465)  # books, states, steps from them, images, and questions about them
+FRESH = (3000, 2000, 800, 15000)  # random books, states, whole sweeps, and images
 FILL = 0xA5  # in lent tables
 BEHIND = [7, 0, 2**64 - 1]  # behind the numbers of a state
-FAR = 2**64 - 1
 NO_STATE = (4, 0, 0, 0, 0)
 STEPS = (steps.CARRY, 97, b"", b"a", b"a" * steps.RUN, b"a" * (steps.RUN + 1))  # tried on what is no state
 KIND = {"refused": 0, "fetch": 1, "hit": 2, "done": 3}
+FIT = {"refused": 0, "fits": 1, "differs": 2, "cut off": 3}
 
 
 class Differs(Exception):
@@ -42,11 +44,11 @@ def expect(name, given, wanted, after=()):
     """Calls, and compares the answer, and each lent slice with what is wanted of it; nothing said, it stays as it was."""
     global made
     after = dict(after)
-    contents = [x.around(after.get(i, x.content())) if isinstance(x, Lent) else None for i, x in enumerate(given)]
+    contents = [(x.around(after[i]) if i in after else x.whole[:]) if isinstance(x, Lent) else None for i, x in enumerate(given)]
     said = proved.call(name, *given)
     made += 1
     if said != wanted:
-        raise Differs(f"{name} tells {said}, wanted {wanted}")
+        raise Differs(f"{name} of {[x for x in given if not isinstance(x, Lent)]} tells {said}, wanted {wanted}")
     for i, x in enumerate(given):
         if isinstance(x, Lent) and x.whole != contents[i]:
             at = next(k for k, (a, b) in enumerate(zip(x.whole, contents[i])) if a != b)
@@ -68,7 +70,7 @@ def reading_told(reading):
 
 
 def place_told(place):
-    return told(3) if place == "unread" else told(2) if place is None else told(1, *place)
+    return told({"refused": 0, "found": 1, "missing": 2}[place[0]], *place[1:])
 
 
 def near(word):
@@ -192,6 +194,16 @@ def no_states():
             yield no_state, (lists, numbers[:6] + [due] + numbers[7:] + BEHIND, what)
 
 
+# Where a token stops fitting
+
+
+def fit_case(book, image, asked):
+    slices = [Lent(BYTES, book), Lent(BYTES, image)]
+    for number, end in asked:
+        answer, *values = fits.fit(book, image, number, end)
+        expect("probe_fit", [*slices, number, end], told(FIT[answer], *values))
+
+
 # All cases
 
 
@@ -205,6 +217,8 @@ def fresh(rng):
         cut = numbers[: rng.randrange(steps.SIZE)] if rng.random() < 0.5 else numbers[:6] + [rng.choice([2, 3, FAR])] + numbers[7:]
         yield no_state, (case[0], cut, rng.choice(STEPS))
         yield start_case, (rng.choice([rng.randint(0, 99), steps.IMAGE + rng.randint(-1, 1)]), rng.randint(0, 2000), rng.randint(0, 20000))
+    for _ in range(FRESH[3]):
+        yield fit_case, fits.some_case(rng)
 
 
 def run(name, cases):
@@ -213,8 +227,14 @@ def run(name, cases):
             check(*case)
         except Differs as why:
             print(f"calls: {name} {i}, {check.__name__}: {why}")
-            print("  ", repr(case if check is not state_case else (case[0], case[1].numbers(), case[2]))[:2000])
+            parts = case if check is not state_case else (case[0], case[1].numbers(), case[2])
+            print("  ", ", ".join(repr(part)[:2000] for part in parts))
             sys.exit(1)
+
+
+def counted(cases):
+    """How many cases there are, and calls made in them."""
+    return len(cases), sum(len(calls) for _, _, calls in cases)
 
 
 def main():
@@ -222,15 +242,17 @@ def main():
     parser.add_argument("--seed", type=int, default=random.SystemRandom().randrange(2**32))
     seed = parser.parse_args().seed
     print(f"calls: seed {seed}", flush=True)
-    all_books, all_states = list(books.cases()), list(steps.cases())
-    counts = (len(all_books), len(all_states), sum(len(calls) for _, _, calls in all_states))
+    all_books, all_states, all_fits = list(books.cases()), list(steps.cases()), list(fits.cases())
+    counts = (len(all_books), *counted(all_states), *counted(all_fits))
     if counts != COUNTS:
-        sys.exit(f"calls: {counts} books, states and steps, wanted {COUNTS}")
+        sys.exit(f"calls: {counts} books, states, steps, images and questions, wanted {COUNTS}")
     steps.seen.clear()
     run("book", ((book_case, case) for case in all_books))
     run("state", ((state_case, case) for case in all_states))
-    met = {name for case in all_books for name in books.causes(*case)} | {name for name in steps.wanted() if steps.seen[name]}
-    causes = [*books.wanted(), *steps.wanted()]
+    run("image", ((fit_case, case) for case in all_fits))
+    met = {name for name in steps.wanted() if steps.seen[name]}
+    met |= {name for part, cases in ((books, all_books), (fits, all_fits)) for case in cases for name in part.causes(*case)}
+    causes = [*books.wanted(), *steps.wanted(), *fits.wanted()]
     missing = [name for name in causes if name not in met]
     if missing:
         sys.exit("calls: no case meets: " + "; ".join(missing))
@@ -238,8 +260,9 @@ def main():
     run("no state", no_states())
     run(f"seed {seed}, case", fresh(random.Random(seed)))
     print(
-        f"calls: {counts[0]} books and {counts[1]} states with {counts[2]} steps, which meet {len(causes)} causes, and "
-        f"{FRESH[0]} books and {FRESH[1] + FRESH[2]} states of seed {seed}: {made} calls tell and leave what the plain readings say"
+        f"calls: {counts[0]} books, {counts[1]} states with {counts[2]} steps and {counts[3]} images with {counts[4]} questions "
+        f"about them, which meet {len(causes)} causes, and {FRESH[0]} books, {FRESH[1] + FRESH[2]} states and {FRESH[3]} images of seed {seed}: "
+        f"{made} calls tell and leave what the plain readings say"
     )
 
 

@@ -10,6 +10,7 @@ import tempfile
 
 ARCHIVES = pathlib.Path(__file__).resolve().parent.parent / "target" / "staticlib"
 GUARD = 4  # numbers before and behind what is lent
+AROUND = 0xA5  # what they are
 BYTES, ENTRIES, HITS, NUMBERS = "B", "H", "I", "Q"
 
 
@@ -29,8 +30,8 @@ class Lent:
         self.whole = self.around(content)
 
     def around(self, content):
-        guard = [0xA5] * GUARD
-        return array.array(self.code, [*guard, *content, *guard])
+        guard = array.array(self.code, [AROUND] * GUARD)
+        return guard + array.array(self.code, content) + guard
 
     def slice(self):
         address, count = self.whole.buffer_info()

@@ -61,14 +61,14 @@ def read(book):
 
 
 def token(book, i):
-    """Place and length of the body of token i, or None, or 'unread'."""
+    """('found', place, length) of the body of token i, ('missing',) or ('refused', number, value)."""
     reading = read(book)
     if reading[0] == "refused":
-        return "unread"
+        return reading
     bodies = reading[1]
     if not 1 <= i <= len(bodies):
-        return None
-    return (sum(1 + len(b) for b in bodies[: i - 1]) + 1, len(bodies[i - 1]))
+        return ("missing",)
+    return ("found", sum(1 + len(b) for b in bodies[: i - 1]) + 1, len(bodies[i - 1]))
 
 
 def body_at(book, at):

@@ -2,8 +2,11 @@
 use Prim.Native.Nat.{ℕ}
 use mathlib.Core.Path.{_≡_, refl}
 use mathlib.Core.List.{List, [], _∷_}
+use mathlib.Core.Option.{some, none}
 use Rattle.rules.specs.Lists.{least}
 use Rattle.agree.specs.Tests.{nodeTest, byteTest, leastOf}
+use Rattle.agree.specs.Answers.{testedOf}
+use Rattle.agree.specs.declared.Tested.the-variants.{Fits, Differs}
 
 abbrev axbbx : List ℕ
 axbbx = 97 ∷ 120 ∷ 98 ∷ 98 ∷ 120 ∷ []
@@ -18,7 +21,7 @@ after-ax = refl
 after-bx : least (nodeTest (98 ∷ 120 ∷ []) axbbx) 1 9 ≡ 5
 after-bx = refl
 
--- Where none below the best so far agrees, it is that; and never less than 1.
+-- Where it fits for none below the best so far, it is that; and never less than 1.
 none-below : least (nodeTest (120 ∷ []) axbbx) 1 1 ≡ 2
 none-below = refl
 
@@ -32,6 +35,10 @@ closing-first = refl
 closing-second : least (byteTest 1 97 axbbx) 1 9 ≡ 3
 closing-second = refl
 
--- Of two words the one that agrees first counts.
+-- Of two words the one that fits first counts.
 of-two : leastOf (nodeTest (120 ∷ [])) (axbbx ∷ (120 ∷ 98 ∷ 120 ∷ []) ∷ []) 3 ≡ 2
 of-two = refl
+
+-- Each case of the test's answer.
+cases-told : testedOf Fits ∷ testedOf (Differs 9) ∷ [] ≡ none ∷ some 9 ∷ []
+cases-told = refl

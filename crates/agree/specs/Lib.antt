@@ -1,4 +1,5 @@
--- Rule 5 for one word: its tests, samples, and the law that makes a search word by word enough.
+-- Rule 5 for one word: its tests and what the code answers, samples, and the law that makes a search word by word enough.
 pub mod Tests
+pub mod Answers
 pub mod Examples
 pub mod Laws

@@ -1,18 +1,17 @@
--- Rule 5 for one word, and the least shift of some words.
-use Prim.Native.Nat.{ℕ, _-_}
+-- Rule 5 for one word: what each shift hands to the test, and the least shift of some words.
+use Prim.Native.Nat.{ℕ, _+_, _-_}
 use mathlib.Core.Bool.{Bool}
-use mathlib.Core.List.{List}
-use lib.ListN.{length}
-use Rattle.rules.specs.Lists.{anyOf, every, least}
-use Rattle.rules.specs.Tokens.{fromRight, agrees}
+use mathlib.Core.List.{List, [], _∷_}
+use Rattle.rules.specs.Lists.{anyOf, least}
+use Rattle.rules.specs.Tokens.{fits}
 
--- The word w, moved s to the right, agrees with each matched byte.
+-- The word w, moved s to the right, fits the matched bytes u.
 abbrev pub nodeTest : List ℕ → List ℕ → ℕ → Bool
-nodeTest u w s = every (length u) (λ k. agrees w s k (fromRight u k))
+nodeTest u w s = fits u w s
 
--- It agrees with the byte x that d matched ones lie right of.
+-- It fits the byte x, that d matched ones lie right of, alone.
 abbrev pub byteTest : ℕ → ℕ → List ℕ → ℕ → Bool
-byteTest d x w s = agrees w s d x
+byteTest d x w s = fits (x ∷ []) w (d + s)
 
 -- The smallest shift below S for which one of the words passes, or S.
 abbrev pub leastOf : (List ℕ → ℕ → Bool) → List (List ℕ) → ℕ → ℕ

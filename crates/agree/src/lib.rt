@@ -1,45 +1,56 @@
-// Rule 5 for one word: the smallest way to the right by which it agrees with what was read.
+// Rule 5 for one word: where it stops fitting what is known of the image, and the smallest way to the right by which it fits.
 ghost use Prim.Native.Nat.{_-_};
 ghost use mathlib.Core.Path.{_≡_};
 ghost use Rattle.rules.specs.Lists.{least};
-ghost use Rattle.rules.specs.Tokens.{agrees};
+ghost use Rattle.rules.specs.Tokens.{mismatch, fits};
 ghost use Rattle.agree.specs.Tests.{nodeTest, byteTest};
+ghost use Rattle.agree.specs.Answers.{testedOf};
 
-// The word, moved s to the right, has x where k bytes stand between that place and the old boundary, or does not reach so far.
-fn agree_at(body: &[u8], s: usize, k: usize, x: u8) -> bool
-    ensures { λ r. ⌜ r ≡ agrees (now (body .entry)) s k x ⌝ }
-{
-    if body.len() <= k {
-        return true;
-    }
-    let left = body.len() - k;
-    if left <= s {
-        return true;
-    }
-    body[left - 1 - s] == x
+// What the test of a word against known bytes answers: it fits, or it differs at the place with so many known bytes right of it, and at none
+// of these.
+pub enum Tested {
+    Fits,
+    Differs(usize),
 }
 
-// The word, moved s to the right, agrees with all matched bytes.
-fn all_agree(body: &[u8], s: usize, matched: &[u8]) -> bool
-    ensures { λ r. ⌜ r ≡ nodeTest (now (matched .entry)) (now (body .entry)) s ⌝ }
+// Tests the word, moved s to the right, against the known bytes, from the right. It fits where they do not overlap.
+pub fn mismatch(body: &[u8], s: usize, known: &[u8]) -> Tested
+    ensures { λ r. ⌜ testedOf r ≡ mismatch (now (known .entry)) (now (body .entry)) s ⌝ }
 {
+    if body.len() <= s {
+        return Tested::Fits;
+    }
+    let left = body.len() - s;
     let mut k = 0;
-    while k < matched.len() {
-        if !agree_at(body, s, k, matched[matched.len() - 1 - k]) {
-            return false;
+    while k < known.len() {
+        if left <= k {
+            return Tested::Fits;
+        }
+        if body[left - 1 - k] != known[known.len() - 1 - k] {
+            return Tested::Differs(k);
         }
         k += 1;
     }
-    true
+    Tested::Fits
 }
 
-// The smallest s from 1 below `best` for which the word agrees with the matched bytes; `best` where there is none, and 1 where that is 0.
+// Whether it fits them.
+fn fits(body: &[u8], s: usize, known: &[u8]) -> bool
+    ensures { λ r. ⌜ r ≡ fits (now (known .entry)) (now (body .entry)) s ⌝ }
+{
+    match mismatch(body, s, known) {
+        Tested::Fits => true,
+        Tested::Differs(_) => false,
+    }
+}
+
+// The smallest s from 1 below `best` at which the word fits the matched bytes; `best` where there is none, and 1 where that is 0.
 pub fn node_least(body: &[u8], matched: &[u8], best: usize) -> usize
     ensures { λ r. ⌜ r ≡ least (nodeTest (now (matched .entry)) (now (body .entry))) 1 (best - 1) ⌝ }
 {
     let mut s = 1;
     while s < best {
-        if all_agree(body, s, matched) {
+        if fits(body, s, matched) {
             return s;
         }
         s += 1;
@@ -47,13 +58,18 @@ pub fn node_least(body: &[u8], matched: &[u8], best: usize) -> usize
     s
 }
 
-// The same for the byte x left of `depth` matched ones alone.
+// The same for the byte x left of `depth` matched ones alone: those of the word that can come to lie over it are left of its last `depth`.
 pub fn byte_least(body: &[u8], depth: usize, x: u8, best: usize) -> usize
     ensures { λ r. ⌜ r ≡ least (byteTest depth x (now (body .entry))) 1 (best - 1) ⌝ }
 {
+    if body.len() <= depth {
+        return 1;
+    }
+    let left = &body[..body.len() - depth];
+    let known = [x];
     let mut s = 1;
     while s < best {
-        if agree_at(body, s, depth, x) {
+        if fits(left, s, &known[..]) {
             return s;
         }
         s += 1;

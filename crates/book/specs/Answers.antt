@@ -41,4 +41,4 @@ verdictOf (Refused r) = refused (refusalOf r .0) (refusalOf r .1)
 abbrev pub placeOf : Spot → Place
 placeOf (Found at n) = found at n
 placeOf Missing = missing
-placeOf Unread = unread
+placeOf (Unread why) = unread (refusalOf why .0) (refusalOf why .1)

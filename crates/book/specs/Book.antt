@@ -1,4 +1,4 @@
--- The revocation book: its records, its limits, and refusals 1 to 6 in document 01's order.
+-- The revocation book: its records, its limits, refusals 1 to 6 in document 01's order, and the test of 8.
 use Prim.Native.Nat.{ℕ, zero, suc, _+_, _-_, _*_, _^_}
 use mathlib.Core.Bool.{Bool, true, false, _&&_, _||_}
 use mathlib.Core.List.{List, [], _∷_, _++_}
@@ -17,6 +17,10 @@ maxBodies = 16384
 
 abbrev pub maxImage : ℕ
 maxImage = 16777216
+
+-- Refusal 8: an image of n bytes is over its limit.
+abbrev pub tooLong : ℕ → Bool
+tooLong n = ltb maxImage n
 
 -- the longest body that a kind can have
 abbrev pub maxBody : ℕ
@@ -142,21 +146,26 @@ abbrev pub summary : Reading → Verdict Totals
 summary (accepted tokens) = accepted (totalsOf tokens)
 summary (refused k v) = refused k v
 
--- Where token number i stands in the book: the place and the length of its body; or it is not in the book, or the book is refused.
+-- Where token number i stands in the book: the place and the length of its body; or it is not in the book, or the book is refused, with the
+-- refusal's number and value.
 pub data Place : Type 0 where
   found : ℕ → ℕ → Place
   missing : Place
-  unread : Place
+  unread : ℕ → ℕ → Place
 
 -- The place of the record with i others before it: each of them takes a kind byte and its body.
 abbrev pub recordPlace : List (List ℕ) → ℕ → ℕ
 recordPlace tokens i = i + total (take i tokens)
 
+-- A token has the number i.
+abbrev pub hasToken : List (List ℕ) → ℕ → Bool
+hasToken tokens i = leb 1 i && leb i (length tokens)
+
 -- The body stands behind its record's kind byte.
 abbrev pub placeIn : Reading → ℕ → Place
-placeIn (refused k v) i = unread
+placeIn (refused k v) i = unread k v
 placeIn (accepted tokens) i =
-    elim (leb 1 i && leb i (length tokens)) [
+    elim (hasToken tokens i) [
       | true ↦ found (recordPlace tokens (i - 1) + 1) (length (getD tokens (i - 1) []))
       | false ↦ missing
     ]

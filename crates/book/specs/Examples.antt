@@ -1,16 +1,17 @@
--- Samples of refused books, a table for each cause: the cause alone, and beside others so that their order is pinned. And of the bodies of a
--- book, of a book's bytes, and of the marks of bodies.
+-- Samples of refused books, a table for each cause: the cause alone, and beside others so that their order is pinned. And of places of tokens,
+-- of the bodies of a book, of a book's bytes, and of the marks of bodies.
 use Prim.Native.Nat.{ℕ, suc}
 use mathlib.Core.Path.{_≡_, refl}
 use mathlib.Core.Bool.{Bool, true, false, _&&_}
 use mathlib.Core.List.{List, [], _∷_, _++_}
 use lib.Dec.{eqb}
 use lib.ListN.{length, replicate}
-use Rattle.book.specs.Book.{Reading, accepted, refused, refusalIn, bodiesIn, readFrom, readBook, summary}
+use Rattle.book.specs.Book.{Reading, accepted, refused, tooLong, refusalIn, found, missing, unread, placeIn, bodiesIn, readFrom, readBook, summary}
 use Rattle.book.specs.Bytes.{kindOf, bookOf}
 use Rattle.book.specs.Filter.{hash, isMarked, marked, Covers}
 use Rattle.book.specs.declared.Refusal.the-variants.{Unfinished, UnknownKind, Trailing, Repeat, OverLimits, NoToken}
-use Rattle.book.specs.Answers.{refusalOf}
+use Rattle.book.specs.declared.Place.the-variants.{Found, Missing, Unread}
+use Rattle.book.specs.Answers.{refusalOf, placeOf}
 
 -- A book that is read on from its first byte, with the tokens before it, and the refusal.
 record Sample : Type 0 where
@@ -78,6 +79,10 @@ tokens-right : allRight (row (letters 256) (1 ∷ 98 ∷ 0 ∷ []) 5 0 ∷ row (
 unfolding row letters allRight right
 tokens-right = refl
 
+-- 8: image byte 16,777,217; 16,777,216 pass.
+images-right : tooLong 16777216 ∷ tooLong 16777217 ∷ [] ≡ false ∷ true ∷ []
+images-right = refl
+
 -- 256 counts tokens: after 255 with two words each there is room for another.
 cards-right : allRight (row (replicate 255 (97 ∷ 98 ∷ 98 ∷ 120 ∷ [])) (1 ∷ 98 ∷ 69 ∷ []) 2 2 ∷ []) ≡ true
 unfolding row allRight right
@@ -128,6 +133,19 @@ accepted-told = refl
 cases-told : refusalOf (Unfinished 9) ∷ refusalOf (UnknownKind 9) ∷ refusalOf (Trailing 9) ∷ refusalOf (Repeat 9) ∷ refusalOf (OverLimits 9) ∷ refusalOf NoToken ∷ []
     ≡ (1, 9) ∷ (2, 9) ∷ (3, 9) ∷ (4, 9) ∷ (5, 9) ∷ (6, 0) ∷ []
 cases-told = refl
+
+-- Both tokens of a book, and two that it lacks.
+places-right : (let book = readBook (1 ∷ 97 ∷ 2 ∷ 98 ∷ 99 ∷ 0 ∷ []) in placeIn book 1 ∷ placeIn book 2 ∷ placeIn book 0 ∷ placeIn book 3 ∷ [])
+    ≡ found 1 1 ∷ found 3 2 ∷ missing ∷ missing ∷ []
+places-right = refl
+
+-- A book with a repeat is refused, whatever token is asked for.
+unread-right : (let book = readBook (1 ∷ 97 ∷ 1 ∷ 97 ∷ 0 ∷ []) in placeIn book 0 ∷ placeIn book 1 ∷ []) ≡ unread 4 2 ∷ unread 4 2 ∷ []
+unread-right = refl
+
+-- Each case of a place has its numbers.
+places-told : placeOf (Found 7 5) ∷ placeOf Missing ∷ placeOf (Unread (Repeat 9)) ∷ [] ≡ found 7 5 ∷ missing ∷ unread 4 9 ∷ []
+places-told = refl
 
 -- The bodies of a book that breaks off, of one that goes on behind its 00h, of one with a kind above 44h, and of an empty one.
 bodies-found : bodiesIn (1 ∷ 97 ∷ 2 ∷ 98 ∷ 99 ∷ 3 ∷ 97 ∷ []) ∷ bodiesIn (1 ∷ 97 ∷ 0 ∷ 1 ∷ 98 ∷ []) ∷ bodiesIn (1 ∷ 97 ∷ 69 ∷ 1 ∷ 98 ∷ []) ∷ bodiesIn [] ∷ []

@@ -94,11 +94,11 @@ pub enum Reading {
     Refused(Refusal),
 }
 
-// Place and length of a token's body; or the token is not in the book; or the book is refused.
+// Place and length of a token's body; or the token is not in the book; or the book's refusal.
 pub enum Place {
     Found(usize, usize),
     Missing,
-    Unread,
+    Unread(Refusal),
 }
 
 // The body's length of the record at `at`, or 0 where no whole record with a body stands there.
@@ -193,8 +193,9 @@ fn finish(book: &[u8], at: usize, totals: Totals) -> Reading
 pub fn token(book: &[u8], i: usize) -> Place
     ensures { λ r. ⌜ placeOf r ≡ placeIn (readBook (now (book .entry))) i ⌝ }
 {
-    let Reading::Accepted(totals) = read(book) else {
-        return Place::Unread;
+    let totals = match read(book) {
+        Reading::Refused(why) => return Place::Unread(why),
+        Reading::Accepted(t) => t,
     };
     if i == 0 {
         return Place::Missing;

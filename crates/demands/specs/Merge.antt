@@ -33,7 +33,7 @@ ValidFor =
 
 -- The bytes of token number i of a book, from where placing it says that they stand.
 abbrev pub tokenIn : List ℕ → ℕ → List ℕ
-tokenIn book i = elim (placeIn (readBook book) i) [ found at n ↦ take n (drop at book) | missing ↦ [] | unread ↦ [] ]
+tokenIn book i = elim (placeIn (readBook book) i) [ found at n ↦ take n (drop at book) | missing ↦ [] | unread k v ↦ [] ]
 
 -- Hits, by their ends and their tokens' bytes: in another book a token may have another number.
 abbrev pub named : List ℕ → List (ℕ × ℕ) → List (ℕ × List ℕ)

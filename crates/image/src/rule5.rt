@@ -28,7 +28,7 @@ fn reverse_into(body: &[u8], into: &mut [u8; CARD])
     }
 }
 
-// The smallest s from 1 below `best` for which a word of the body agrees with the matched bytes, or `best`.
+// The smallest s from 1 below `best` at which a word of the body fits the matched bytes, or `best`.
 fn node_words(body: &[u8], matched: &[u8], best: usize) -> usize
     requires { ⌜ 1 ≤ best ⌝ }
     ensures { λ r. ⌜ r ≡ leastOf (nodeTest (now (matched .entry))) (wordsOf (now (body .entry))) best ⌝ }

@@ -7,6 +7,7 @@ use mathlib.Core.List.{List, [], _∷_, _++_}
 use mathlib.Core.Option.{some, none}
 use lib.ListN.{take, set, replicate}
 use Rattle.book.specs.Book.{accepted, refused, found, missing, unread}
+use Rattle.fitting.specs.Fitting.{fits, differs, cutOff}
 use Rattle.merge.specs.Merge.{wrote}
 use Rattle.trie.specs.Answers.{tables}
 use Rattle.trie.specs.declared.chain.Way.the-variants.{Found, Ends}
@@ -16,7 +17,7 @@ use Rattle.scan.specs.Calls.{fetch, found as hit, over, refused as denied, supp
 use Rattle.scan.specs.Packets.{Delivered, noneUsed, supplyPacket}
 use Rattle.scan.specs.Examples.{count, chain}
 use Rattle.probe.specs.declared.Told.{Told}
-use Rattle.probe.specs.Numbers.{told, readingOf, placeOf, containsOf, lengthTold, mergingOf, sizesTold, buildingOf, testedOf, childOf, wayOf, stepOf}
+use Rattle.probe.specs.Numbers.{told, readingOf, placeOf, containsOf, fitTold, lengthTold, mergingOf, sizesTold, buildingOf, testedOf, childOf, wayOf, stepOf}
 use Rattle.probe.specs.States.{Lent, numbersOf, stateIn, startIn, stepIn}
 
 -- each answer as one list, its kind first
@@ -27,7 +28,8 @@ answers : List (List ℕ)
 unfolding plain
 answers =
     plain (readingOf (refused 4 12)) ∷ plain (readingOf (accepted (record { tokens = 3; bodies = 20; shortest = 2; longest = 16 })))
-    ∷ plain (placeOf (found 7 5)) ∷ plain (placeOf missing) ∷ plain (placeOf unread)
+    ∷ plain (placeOf (found 7 5)) ∷ plain (placeOf missing) ∷ plain (placeOf (unread 4 12))
+    ∷ plain (fitTold (accepted fits)) ∷ plain (fitTold (accepted (differs 7))) ∷ plain (fitTold (accepted cutOff)) ∷ plain (fitTold (refused 8 9))
     ∷ plain (containsOf true) ∷ plain (containsOf false) ∷ plain (lengthTold (accepted 9)) ∷ plain (lengthTold (refused 13 4))
     ∷ plain (sizesTold (refused 7 21)) ∷ plain (sizesTold (accepted (record { nodes = 19; shortest = 2; longest = 16 })))
     ∷ plain (testedOf (accepted tt)) ∷ plain (testedOf (refused 9 8))
@@ -38,7 +40,8 @@ answers =
 
 answers-told : answers
     ≡ (0 ∷ 4 ∷ 12 ∷ 0 ∷ 0 ∷ []) ∷ (1 ∷ 3 ∷ 20 ∷ 2 ∷ 16 ∷ [])
-    ∷ (1 ∷ 7 ∷ 5 ∷ 0 ∷ 0 ∷ []) ∷ (2 ∷ 0 ∷ 0 ∷ 0 ∷ 0 ∷ []) ∷ (3 ∷ 0 ∷ 0 ∷ 0 ∷ 0 ∷ [])
+    ∷ (1 ∷ 7 ∷ 5 ∷ 0 ∷ 0 ∷ []) ∷ (2 ∷ 0 ∷ 0 ∷ 0 ∷ 0 ∷ []) ∷ (0 ∷ 4 ∷ 12 ∷ 0 ∷ 0 ∷ [])
+    ∷ (1 ∷ 0 ∷ 0 ∷ 0 ∷ 0 ∷ []) ∷ (2 ∷ 7 ∷ 0 ∷ 0 ∷ 0 ∷ []) ∷ (3 ∷ 0 ∷ 0 ∷ 0 ∷ 0 ∷ []) ∷ (0 ∷ 8 ∷ 9 ∷ 0 ∷ 0 ∷ [])
     ∷ (1 ∷ 0 ∷ 0 ∷ 0 ∷ 0 ∷ []) ∷ (2 ∷ 0 ∷ 0 ∷ 0 ∷ 0 ∷ []) ∷ (1 ∷ 9 ∷ 0 ∷ 0 ∷ 0 ∷ []) ∷ (0 ∷ 13 ∷ 4 ∷ 0 ∷ 0 ∷ [])
     ∷ (0 ∷ 7 ∷ 21 ∷ 0 ∷ 0 ∷ []) ∷ (1 ∷ 19 ∷ 2 ∷ 16 ∷ 0 ∷ [])
     ∷ (1 ∷ 0 ∷ 0 ∷ 0 ∷ 0 ∷ []) ∷ (0 ∷ 9 ∷ 8 ∷ 0 ∷ 0 ∷ [])

@@ -6,6 +6,7 @@ use mathlib.Core.Bool.{Bool, true, false}
 use mathlib.Core.List.{List, [], _∷_}
 use mathlib.Core.Option.{Option, some, none}
 use Rattle.book.specs.Book.{Verdict, accepted, refused, Totals, Place, found, missing, unread}
+use Rattle.fitting.specs.Fitting.{Fit, fits, differs, cutOff}
 use Rattle.merge.specs.Merge.{verdict, Merging}
 use Rattle.tables.specs.Tables.{Tables, Sizes, Building}
 use Rattle.trie.specs.declared.chain.Way.{Way}
@@ -25,16 +26,23 @@ abbrev pub readingOf : Verdict Totals → Told
 readingOf (accepted t) = told 1 (t .tokens) (t .bodies) (t .shortest) (t .longest)
 readingOf (refused k v) = refusal k v
 
--- A token: 1, place and length of its body; 2, it is not in the book; 3, the book is refused.
+-- A token: 1, place and length of its body; 2, it is not in the book.
 abbrev pub placeOf : Place → Told
 placeOf (found at size) = told 1 at size 0 0
 placeOf missing = told 2 0 0 0 0
-placeOf unread = told 3 0 0 0 0
+placeOf (unread k v) = refusal k v
 
 -- Whether a book has a body: 1, it has; 2, it has not.
 abbrev pub containsOf : Bool → Told
 containsOf true = told 1 0 0 0 0
 containsOf false = told 2 0 0 0 0
+
+-- Where a token stops fitting: 1, it fits; 2, the place; 3, it is cut off.
+abbrev pub fitTold : Verdict Fit → Told
+fitTold (accepted fits) = told 1 0 0 0 0
+fitTold (accepted (differs place)) = told 2 place 0 0 0
+fitTold (accepted cutOff) = told 3 0 0 0 0
+fitTold (refused k v) = refusal k v
 
 -- Merging: 1, the length written; and the lent output.
 abbrev pub lengthTold : Verdict ℕ → Told

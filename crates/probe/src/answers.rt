@@ -1,14 +1,16 @@
 // What the calls answer, in numbers.
 ghost use mathlib.Core.Path.{_≡_};
 ghost use Rattle.book.specs.Answers.{verdictOf, placeOf as spotOf};
+ghost use Rattle.fitting.specs.Answers.{fittingOf};
 ghost use Rattle.merge.specs.Merge.{verdict};
 ghost use Rattle.merge.specs.Answers.{answerOf as mergedOf};
 ghost use Rattle.trie.specs.Answers.{answerOf as sizesOf, testedOf as breakOf, childOf as nodeOf};
 ghost use Rattle.scan.specs.declared.Scan.{Scan};
 ghost use Rattle.scan.specs.Results.{answerOf, verdictOf as readyOf};
-ghost use Rattle.probe.specs.Numbers.{told, refusal, readingOf, placeOf, containsOf, lengthTold, sizesTold, testedOf, childOf, wayOf, openingOf, stepOf};
+ghost use Rattle.probe.specs.Numbers.{told, refusal, readingOf, placeOf, containsOf, fitTold, lengthTold, sizesTold, testedOf, childOf, wayOf, openingOf, stepOf};
 use crate::Told;
 use book::Numbered;
+use fitting::Fitting;
 use scan::Answer;
 use scan::Opening;
 
@@ -48,7 +50,7 @@ pub fn place(answer: book::Place) -> Told
     match answer {
         book::Place::Found(at, size) => tell(1, at, size, 0, 0),
         book::Place::Missing => tell(2, 0, 0, 0, 0),
-        book::Place::Unread => tell(3, 0, 0, 0, 0),
+        book::Place::Unread(why) => refused(why.numbered()),
     }
 }
 
@@ -59,6 +61,20 @@ pub fn contains(answer: bool) -> Told
         return tell(1, 0, 0, 0, 0);
     }
     tell(2, 0, 0, 0, 0)
+}
+
+pub fn fit(answer: Fitting) -> Told
+    ensures { λ r. ⌜ r ≡ fitTold (fittingOf answer) ⌝ }
+{
+    match answer {
+        Fitting::Fits => tell(1, 0, 0, 0, 0),
+        Fitting::Differs(place) => tell(2, place, 0, 0, 0),
+        Fitting::CutOff => tell(3, 0, 0, 0, 0),
+        Fitting::Unread(_) => refused(answer.numbered()),
+        Fitting::TooLong(_) => refused(answer.numbered()),
+        Fitting::NotInBook => refused(answer.numbered()),
+        Fitting::BeyondImage => refused(answer.numbered()),
+    }
 }
 
 pub fn merging(answer: merge::Merging) -> Told

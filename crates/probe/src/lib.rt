@@ -7,6 +7,7 @@ ghost use mathlib.Core.List.{[]};
 ghost use Rattle.rules.specs.Lists.{anyOf};
 ghost use Rattle.rules.specs.Words.{isWord};
 ghost use Rattle.book.specs.Book.{readBook, summary, placeIn, wholeAt, bodiesIn};
+ghost use Rattle.fitting.specs.Fitting.{fitIn};
 ghost use Rattle.merge.specs.Merge.{merge};
 ghost use Rattle.tables.specs.Tables.{build};
 ghost use Rattle.tables.specs.Broken.{broken, tested};
@@ -16,7 +17,7 @@ ghost use Rattle.trie.specs.Answers.{tables};
 ghost use Rattle.scan.specs.Start.{start};
 ghost use Rattle.scan.specs.Calls.{carryOn, supply};
 ghost use Rattle.scan.specs.Packets.{noneUsed, supplyPacket};
-ghost use Rattle.probe.specs.Numbers.{readingOf, placeOf, containsOf, mergingOf, buildingOf, testedOf, childOf, wayOf};
+ghost use Rattle.probe.specs.Numbers.{readingOf, placeOf, containsOf, fitTold, mergingOf, buildingOf, testedOf, childOf, wayOf};
 ghost use Rattle.probe.specs.States.{startIn, stepIn};
 use scan::Opening;
 use scan::Scan;
@@ -54,6 +55,13 @@ pub extern "C" fn probe_contains(book: &[u8], body: &[u8]) -> Told
     ensures { λ r. ⌜ r ≡ containsOf (anyOf (isWord (now (body .entry))) (bodiesIn (now (book .entry)))) ⌝ }
 {
     answers::contains(book::contains(book, body))
+}
+
+#[no_mangle]
+pub extern "C" fn probe_fit(book: &[u8], image: &[u8], token: usize, end: usize) -> Told
+    ensures { λ r. ⌜ r ≡ fitTold (fitIn (readBook (now (book .entry))) (now (image .entry)) token end) ⌝ }
+{
+    answers::fit(fitting::fit(book, image, token, end))
 }
 
 #[no_mangle]

@@ -1,16 +1,17 @@
 -- Sample sweeps by the rules over tokens, as one table: P1 to P5 of document 01, three that pin rule 4 and the byte taken from a stretch,
 -- and four of card numbers. Each row says the hits, the places fetched, and the limit on them; and each sweep ends with done. Then all
--- events of one more, and the words of tokens.
+-- events of one more, rule 5's test and shifts, and the words of tokens.
 use Prim.Native.Nat.{ℕ}
 use mathlib.Core.Path.{_≡_, refl}
 use mathlib.Core.Bool.{Bool, true, false, _&&_}
 use mathlib.Core.List.{List, [], _∷_, map}
+use mathlib.Core.Option.{some, none}
 use lib.Dec.{eqb}
 use lib.ListN.{length, replicate}
 use Rattle.rules.specs.Lists.{same}
 use Rattle.rules.specs.Rules.{Event, fetched, recalled, hit, shifted, done, trace}
 use Rattle.rules.specs.Words.{isCard, isWord, numberOf, allWords}
-use Rattle.rules.specs.Tokens.{bodyBytes, longestOf}
+use Rattle.rules.specs.Tokens.{bodyBytes, longestOf, mismatch, nodeShift, byteShift}
 use Rattle.rules.specs.Sweep.{happens, bytesOf, places, hits, limit}
 
 pub record Sample : Type 0 where
@@ -173,6 +174,25 @@ events-right : happens ((a ∷ []) ∷ (a ∷ a ∷ []) ∷ []) 2 (bytesOf (a �
     ≡ fetched 0 ∷ hit 1 1 ∷ shifted 2 [] ∷ fetched 1 ∷ fetched 0 ∷ hit 2 2 ∷ hit 2 1 ∷ shifted 3 [] ∷ done ∷ []
 unfolding happens trace
 events-right = refl
+
+-- The test of "axbbx": not moved, it differs from "ccbbx" at the c that stands farther right; moved by 3 it fits "cax", over two bytes of which
+-- it lies, and differs from "cxx" at the second; moved by 1 its b is over the x; moved by 5 it lies over nothing; and
+-- where no byte is known it fits.
+tests-right : (let t = a ∷ x ∷ b ∷ b ∷ x ∷ [] in
+    mismatch (c ∷ c ∷ b ∷ b ∷ x ∷ []) t 0 ∷ mismatch (c ∷ a ∷ x ∷ []) t 3 ∷ mismatch (c ∷ x ∷ x ∷ []) t 3 ∷ mismatch (b ∷ x ∷ []) t 1
+    ∷ mismatch (c ∷ x ∷ []) t 5 ∷ mismatch [] t 0 ∷ [])
+    ≡ some 3 ∷ none ∷ some 1 ∷ some 0 ∷ none ∷ none ∷ []
+tests-right = refl
+
+-- Moved by 2 it differs from "ccb" at each c, and the one that stands farther right is answered.
+moved-right : mismatch (c ∷ c ∷ b ∷ []) (a ∷ x ∷ b ∷ b ∷ x ∷ []) 2 ≡ some 1
+moved-right = refl
+
+-- Both shifts of "axbbx", cut at 5: after "x" and after "bx"; by the closing byte "a" at the boundary and one byte left of it; and with none.
+shifts-right : (let ts = (a ∷ x ∷ b ∷ b ∷ x ∷ []) ∷ [] in
+    nodeShift ts 5 (x ∷ []) ∷ nodeShift ts 5 (b ∷ x ∷ []) ∷ byteShift ts 5 0 (some a) ∷ byteShift ts 5 1 (some a) ∷ byteShift ts 5 1 none ∷ [])
+    ≡ 3 ∷ 5 ∷ 4 ∷ 3 ∷ 1 ∷ []
+shifts-right = refl
 
 -- Words: of card numbers both orders, each after its token's own; of one that reads the same backwards, and of other lengths, the bytes alone.
 words-right : allWords ((a ∷ b ∷ b ∷ x ∷ []) ∷ (a ∷ b ∷ c ∷ x ∷ c ∷ b ∷ a ∷ []) ∷ (a ∷ a ∷ a ∷ a ∷ b ∷ []) ∷ [])

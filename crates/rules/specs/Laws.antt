@@ -2,6 +2,7 @@
 -- stretch (Remember), the hits are the occurrences (Exact) and are known by being them (Ordered), and trees that agree on their nodes are
 -- swept alike (Alike). The others serve these.
 pub mod Tests
+pub mod Fits
 pub mod All
 pub mod Members
 pub mod Over

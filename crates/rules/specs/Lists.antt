@@ -2,6 +2,7 @@
 use Prim.Native.Nat.{ℕ, zero, suc, _+_}
 use mathlib.Core.Bool.{Bool, true, false, _&&_, _||_}
 use mathlib.Core.List.{List, [], _∷_, _++_}
+use mathlib.Core.Option.{Option, some, none}
 use lib.Dec.{eqb}
 use lib.ListN.{length, drop}
 
@@ -19,6 +20,16 @@ anyOf p (a ∷ rest) = p a || anyOf p rest
 abbrev pub every : ℕ → (ℕ → Bool) → Bool
 every zero p = true
 every (suc n) p = p n && every n p
+
+-- the smallest number below n that passes, if there is one
+abbrev pub firstBelow : ℕ → (ℕ → Bool) → Option ℕ
+firstBelow zero p = none
+firstBelow (suc n) p = elim (firstBelow n p) [ some k ↦ some k | none ↦ elim (p n) [ true ↦ some n | false ↦ none ] ]
+
+-- there is none
+abbrev pub isNone : Option ℕ → Bool
+isNone none = true
+isNone (some k) = false
 
 -- the smallest number from `from` on that passes, or from + fuel
 abbrev pub least : (ℕ → Bool) → ℕ → ℕ → ℕ

@@ -5,7 +5,7 @@ use mathlib.Core.List.{List, [], _∷_}
 use mathlib.Core.Option.{Option, some, none}
 use lib.Dec.{leb, ltb, eqb}
 use lib.ListN.{length, getD, drop}
-use Rattle.rules.specs.Lists.{anyOf, every, least, same}
+use Rattle.rules.specs.Lists.{anyOf, firstBelow, isNone, least, same}
 use Rattle.rules.specs.Words.{allWords, numberOf}
 use Rattle.rules.specs.Rules.{Tree}
 
@@ -42,15 +42,25 @@ fromRight t k = getD t (length t - 1 - k) 0
 abbrev pub agrees : List ℕ → ℕ → ℕ → ℕ → Bool
 agrees t s k x = leb (length t) (k + s) || eqb (fromRight t (k + s)) x
 
-module _ (words : List (List ℕ)) where
-  -- Rule 5: the good-suffix shift (document 01: node shift) of the matched bytes u, cut at S.
-  abbrev pub nodeShift : ℕ → List ℕ → ℕ
-  nodeShift shortest u = least (λ s. anyOf (λ t. every (length u) (λ k. agrees t s k (fromRight u k))) words) 1 (shortest - 1)
+-- Rule 5: the test of the word t, moved s to the right, against the known bytes u, which end at the old boundary. It answers the mismatch
+-- (document 02: disagreeing place) that lies farthest right, as the number of known bytes right of it, or none: the word fits.
+abbrev pub mismatch : List ℕ → List ℕ → ℕ → Option ℕ
+mismatch u t s = firstBelow (length u) (λ k. not (agrees t s k (fromRight u k)))
 
-  -- Rule 5: the bad-character shift (document 01: byte shift) of the byte that d matched ones lie right of, cut at S.
+-- Rule 5: the word fits, as there is no mismatch.
+abbrev pub fits : List ℕ → List ℕ → ℕ → Bool
+fits u t s = isNone (mismatch u t s)
+
+module _ (words : List (List ℕ)) where
+  -- Rule 5: the good-suffix shift (document 01: node shift), cut at S: the smallest s ≥ 1 at which a word fits the matched bytes u.
+  abbrev pub nodeShift : ℕ → List ℕ → ℕ
+  nodeShift shortest u = least (λ s. anyOf (λ t. fits u t s) words) 1 (shortest - 1)
+
+  -- Rule 5: the bad-character shift (document 01: byte shift), cut at S: the same for the closing byte alone. d matched bytes lie between
+  -- it and the boundary, so a word that ends s right of the boundary ends d + s right of it.
   abbrev pub byteShift : ℕ → ℕ → Option ℕ → ℕ
   byteShift shortest d none = 1
-  byteShift shortest d (some x) = least (λ s. anyOf (λ t. agrees t s d x) words) 1 (shortest - 1)
+  byteShift shortest d (some x) = least (λ s. anyOf (λ t. fits (x ∷ []) t (d + s)) words) 1 (shortest - 1)
 
   -- Rule 5: the greater of the two.
   abbrev pub shiftOf : ℕ → List ℕ → Option ℕ → ℕ

@@ -1,9 +1,8 @@
 -- Starting a sweep by single bytes (refusal 8).
 use Prim.Native.Nat.{ℕ}
-use mathlib.Core.Bool.{Bool, true, false}
+use mathlib.Core.Bool.{true, false}
 use mathlib.Core.List.{[]}
-use lib.Dec.{ltb}
-use Rattle.book.specs.Book.{Verdict, accepted, refused, maxImage}
+use Rattle.book.specs.Book.{Verdict, accepted, refused, maxImage, tooLong}
 use Rattle.scan.specs.declared.Scan.{Scan}
 use Rattle.scan.specs.State.{maxStretches, laid}
 
@@ -23,11 +22,7 @@ started n shortest count = record {
   hit = 0;
 }
 
--- Refusal 8: the image is over its limit.
-abbrev pub tooLong : ℕ → Bool
-tooLong n = ltb maxImage n
-
--- Starting takes N, S and the number of nodes, and tests N alone.
+-- Starting takes N, S and the number of nodes, and tests N alone (8).
 abbrev pub start : ℕ → ℕ → ℕ → Verdict Scan
 start n shortest count = elim (tooLong n) [ true ↦ refused 8 maxImage | false ↦ accepted (started n shortest count) ]
 

@@ -66,8 +66,8 @@ fn carrier(token: &[u16], v: usize, count: usize) -> usize
     at
 }
 
-// The smallest s from 1 below `best` for which the word agrees with the matched bytes, or `best`. One that agrees with the last
-// of them for no s has none, which is found sooner.
+// The smallest s from 1 below `best` at which the word fits the matched bytes, or `best`. One that fits the last of them for
+// no s has none, which is found sooner.
 fn node_lower(body: &[u8], matched: &[u8], best: usize) -> usize
     ensures { λ r. ⌜ r ≡ least (nodeTest (now (matched .entry)) (now (body .entry))) 1 (best - 1) ⌝ }
 {

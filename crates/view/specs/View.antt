@@ -11,7 +11,7 @@ use Rattle.view.specs.declared.Node.{Node}
 abbrev pub bodyOf : Place → Body
 bodyOf (found at n) = record { place = at; length = n }
 bodyOf missing = record { place = 0; length = 0 }
-bodyOf unread = record { place = 0; length = 0 }
+bodyOf (unread k v) = record { place = 0; length = 0 }
 
 -- The entries with the body of the token that the third one names.
 abbrev shown : Tables → ℕ → Body → Node

@@ -37,7 +37,7 @@ fn body_of(book: &[u8], i: usize) -> Body
             place: 0,
             length: 0,
         },
-        Place::Unread => Body {
+        Place::Unread(_) => Body {
             place: 0,
             length: 0,
         },

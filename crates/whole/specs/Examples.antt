@@ -1,14 +1,13 @@
 -- Samples of the whole call: "a" and "aa" have three hits in "aab", for which four bytes are fetched.
 use Prim.Native.Nat.{ℕ}
 use mathlib.Core.Path.{_≡_, refl}
-use mathlib.Core.Bool.{false}
 use mathlib.Core.List.{List, [], _∷_}
 use lib.ListN.{length, replicate}
 use Rattle.rules.specs.Rules.{trace}
 use Rattle.rules.specs.Sweep.{happens}
 use Rattle.book.specs.Book.{Verdict, accepted, refused}
 use Rattle.tables.specs.Tables.{Tables, built}
-use Rattle.whole.specs.Image.{Swept, tooLong, sweepImage}
+use Rattle.whole.specs.Image.{Swept, sweepImage}
 
 abbrev book : List ℕ
 book = 1 ∷ 97 ∷ 2 ∷ 97 ∷ 97 ∷ 0 ∷ []
@@ -110,7 +109,3 @@ module _ (long : List ℕ) (e : length long ≡ 16777217) where
   -- 1 before 7 and 8.
   one-first : sweepImage cut long (nines 0) (eights 4) (eights 2) ≡ untouched (refused 1 2) 0
   one-first = refl
-
--- An image at the limit is no cause for 8.
-longest : (image : List ℕ) → length image ≡ 16777216 → tooLong image ≡ false
-longest image e = rw e refl

@@ -1,13 +1,13 @@
 -- The sweep of a whole image at hand: refusals 1 to 8 and 12, the hits, and the number of bytes fetched, by the rules over the tokens.
 use Prim.Native.Nat.{ℕ, _+_, min}
-use mathlib.Core.Bool.{Bool, true, false}
+use mathlib.Core.Bool.{true, false}
 use mathlib.Core.List.{List, map}
 use lib.Dec.{ltb}
 use lib.ListN.{length, take}
 use Rattle.rules.specs.Tokens.{bodyBytes}
 use Rattle.rules.specs.Lists.{over}
 pub use Rattle.rules.specs.Sweep.{hitsOf, fetchesOf}
-use Rattle.book.specs.Book.{Verdict, accepted, refused, readBook, maxImage}
+use Rattle.book.specs.Book.{Verdict, accepted, refused, maxImage, tooLong, readBook}
 use Rattle.tables.specs.Tables.{Tables, built, written, tooShort}
 
 -- What the sweep answers, the number of hits or a refusal; how many bytes it fetched, none where nothing is swept; and what the lent
@@ -18,10 +18,6 @@ pub record Swept : Type 0 where
   pub tables : Tables
   pub ends : List ℕ
   pub tokens : List ℕ
-
--- Refusal 8: the image is over its limit.
-abbrev pub tooLong : List ℕ → Bool
-tooLong image = ltb maxImage (length image)
 
 -- What the hit buffers hold: as many hits as the shorter one has entries.
 abbrev pub room : List ℕ → List ℕ → ℕ
@@ -42,7 +38,7 @@ sweepImage book image t ends numbers =
       | refused k v ↦ record { answer = refused k v; fetched = 0; tables = t; ends = ends; tokens = numbers }
       | accepted tokens ↦ elim (tooShort t tokens) [
         | true ↦ record { answer = refused 7 (1 + bodyBytes tokens); fetched = 0; tables = t; ends = ends; tokens = numbers }
-        | false ↦ elim (tooLong image) [
+        | false ↦ elim (tooLong (length image)) [
           | true ↦ record { answer = refused 8 maxImage; fetched = 0; tables = t; ends = ends; tokens = numbers }
           | false ↦ (let found = hitsOf tokens image in
               let r = room ends numbers in

@@ -16,12 +16,12 @@ abbrev μ-loop : tie.MeasureT-loop
 loop-holds : tie.Need-loop-holds Inv-loop μ-loop
 loop-holds c = record { rest = refl }
 
-all-agree-requires : tie.Need-all-agree-requires Inv-loop μ-loop
-all-agree-requires c κs = search needs
+fits-requires : tie.Need-fits-requires Inv-loop μ-loop
+fits-requires c κs = search needs
 
 returns : tie.Need-returns Inv-loop μ-loop
 returns c =
-    search-found (c .before .before .before .loop .inv) (c .before .before .loop-test .taken) (sym (c .before .all-agree .ensures) ∙ c .if1 .taken)
+    search-found (c .before .before .before .loop .inv) (c .before .before .loop-test .taken) (sym (c .before .fits2 .ensures) ∙ c .if1 .taken)
 
 add-s : tie.Need-add-s Inv-loop μ-loop
 add-s c = search needs
@@ -31,7 +31,7 @@ loop-less c = search needs
 
 loop-again : tie.Need-loop-again Inv-loop μ-loop
 loop-again c =
-    search-again (c .before .before .before .loop .inv) (c .before .before .loop-test .taken) (sym (c .before .all-agree .ensures) ∙ c .if1 .left)
+    search-again (c .before .before .before .loop .inv) (c .before .before .loop-test .taken) (sym (c .before .fits2 .ensures) ∙ c .if1 .left)
 
 returns-2 : tie.Need-returns-2 Inv-loop μ-loop
 returns-2 c = search-done (c .before .loop .inv) (c .loop-test .left)
@@ -43,7 +43,7 @@ node-least-spec =
     Inv-loop
     μ-loop
     loop-holds
-    all-agree-requires
+    fits-requires
     returns
     add-s
     loop-less

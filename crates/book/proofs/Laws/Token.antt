@@ -14,8 +14,8 @@ use Rattle.book.specs.Laws.Accepted.{total-snoc, summed, refused-as}
 use Rattle.book.specs.Laws.Records.{Held, records-at, accepted-records, accepted-place}
 use Rattle.book.specs.declared.Totals.{Totals}
 
--- The book is refused.
-pub unread-is : (r : Reading) (k v i : ℕ) → refused k v ≡ summary r → unread ≡ placeIn r i
+-- The book is refused, and this is its refusal.
+pub unread-is : (r : Reading) (k v i : ℕ) → refused k v ≡ summary r → unread k v ≡ placeIn r i
 unread-is r k v i e = rw (refused-as r k v e)
 
 -- The book has these tokens.

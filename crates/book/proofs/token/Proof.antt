@@ -18,20 +18,20 @@ abbrev μ-loop : tie.MeasureT-loop
 read-requires : tie.Need-read-requires Inv-loop μ-loop
 read-requires c κs = search needs
 
-enum-known-totals : tie.Need-enum-known-totals Inv-loop μ-loop
-enum-known-totals c = search needs
-
-enum-told : tie.Need-enum-told Inv-loop μ-loop
-enum-told c = search needs
+enum-known-why : tie.Need-enum-known-why Inv-loop μ-loop
+enum-known-why c = search needs
 
 returns : tie.Need-returns Inv-loop μ-loop
 returns c =
-    let a = c .before .before .before .before .args in
-    unread-is (readBook (a .book .now)) _ _ (a .i) (ap verdictOf (sym (c .enum-told .given .1)) ∙ c .before .before .read .ensures)
+    let a = c .before .before .before .before .before .args in
+    unread-is (readBook (a .book .now)) _ _ (a .i) (ap verdictOf (sym (c .before .why .given .1)) ∙ c .before .before .before .read .ensures)
+
+enum-known-t : tie.Need-enum-known-t Inv-loop μ-loop
+enum-known-t c = search needs
 
 -- The book is accepted.
-opens : (c : tie.After-totals Inv-loop μ-loop) → Has (c .before .before .before .before .args .book .now) (c .totals .given .0 .0 .tokens)
-opens c = has _ _ (ap verdictOf (sym (c .totals .given .1)) ∙ c .before .before .read .ensures)
+opens : (c : tie.After-t Inv-loop μ-loop) → Has (c .before .before .before .before .args .book .now) (c .t .given .0 .0 .tokens)
+opens c = has _ _ (ap verdictOf (sym (c .t .given .1)) ∙ c .before .before .read .ensures)
 
 returns-2 : tie.Need-returns-2 Inv-loop μ-loop
 returns-2 c = none (opens (c .before .before)) _ (c .if1 .taken)
@@ -69,8 +69,8 @@ loop-less c = search needs
 loop-again : tie.Need-loop-again Inv-loop μ-loop
 loop-again c = next (c .before .before .loop .inv) (c .body-at .ensures) (c .before .loop-test .taken)
 
-add-t11 : tie.Need-add-t11 Inv-loop μ-loop
-add-t11 c = omega (arith, inside (c .before .loop .inv))
+add-t14 : tie.Need-add-t14 Inv-loop μ-loop
+add-t14 c = omega (arith, inside (c .before .loop .inv))
 
 body-at-requires-2 : tie.Need-body-at-requires-2 Inv-loop μ-loop
 body-at-requires-2 c κs = search needs
@@ -85,9 +85,9 @@ token-spec =
     Inv-loop
     μ-loop
     read-requires
-    enum-known-totals
-    enum-told
+    enum-known-why
     returns
+    enum-known-t
     returns-2
     returns-3
     loop-holds
@@ -98,6 +98,6 @@ token-spec =
     add-passed
     loop-less
     loop-again
-    add-t11
+    add-t14
     body-at-requires-2
     returns-4)

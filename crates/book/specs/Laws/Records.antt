@@ -79,8 +79,10 @@ module _ (book : List ℕ) (tokens : List (List ℕ)) (read : readBook book ≡ 
         let z : recordPlace tokens (i - 1) + 1 ≡ i + total (take (i - 1) tokens) = omega arith in
         rw read (cc (le-leb 1 i h, le-leb i (length tokens) k))
 
+    pub accepted-held : Held book (recordPlace tokens (i - 1)) (getD tokens (i - 1) [])
+    accepted-held = records-at book 0 tokens (i - 1) (recordPlace tokens (i - 1)) (omega arith) (omega arith) accepted-records
+
     pub accepted-body : take (length (getD tokens (i - 1) [])) (drop (i + total (take (i - 1) tokens)) book) ≡ getD tokens (i - 1) []
     accepted-body =
-        let p = i + total (take (i - 1) tokens) in
-        let z : p ≡ p - 1 + 1 = omega arith in
-        rw z (records-at book 0 tokens (i - 1) (p - 1) (omega arith) (omega arith) accepted-records .body)
+        let z : i + total (take (i - 1) tokens) ≡ recordPlace tokens (i - 1) + 1 = omega arith in
+        rw z (accepted-held .body)

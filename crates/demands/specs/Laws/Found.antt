@@ -10,13 +10,13 @@ use lib.Seq.{take-nil, take-all, take-length, take-at}
 use Rattle.rules.specs.Tokens.{bodyBytes}
 use Rattle.rules.specs.Sweep.{happens, bytesOf, hitsOf}
 use Rattle.rules.specs.Laws.Tests.{decide}
-use Rattle.book.specs.Book.{readBook, accepted, refused, maxImage}
+use Rattle.book.specs.Book.{readBook, accepted, refused, maxImage, tooLong}
 use Rattle.book.specs.Laws.Sweep.{book-exact}
 use Rattle.tables.specs.Tables.{Tables, Sizes, sizesOf, tooShort, build}
 use Rattle.scan.specs.Start.{started, start}
 use Rattle.scan.specs.Calls.{Answer, fetch, found, over, refused as denied}
 use Rattle.scan.specs.Answers.{answers, hitsIn}
-use Rattle.whole.specs.Image.{Swept, tooLong, room, counted, noted, sweepImage}
+use Rattle.whole.specs.Image.{Swept, room, counted, noted, sweepImage}
 use Rattle.demands.specs.Demand2.{Demand2, Demand2For}
 use Rattle.demands.specs.Merge.{ByBytes, AsWhole, Sweep, byBytes, asWhole, EndsFor}
 use Rattle.demands.specs.Laws.Swept.{Ends, answers-end}
@@ -96,7 +96,7 @@ module _ (book : List ℕ) (tokens : List (List ℕ)) (read : readBook book ≡ 
   takes : (ends numbers : List ℕ) → Takes (sweepImage book image lent ends numbers)
   takes ends numbers = rw (read, sweepImage)
       (decide Takes (tooShort lent tokens) _ _ (λ _. refuses 7 (1 + bodyBytes tokens) ends numbers)
-      (λ f. decide Takes (tooLong image) _ _ (λ _. refuses 8 maxImage ends numbers) (λ l n e. (cc (read, f), ltb-false maxImage (length image) l))))
+      (λ f. decide Takes (tooLong (length image)) _ _ (λ _. refuses 8 maxImage ends numbers) (λ l n e. (cc (read, f), ltb-false maxImage (length image) l))))
 
   -- Hits that are as many as these, and stand in both buffers as these do, are these.
   counts : (all : List (ℕ × ℕ)) (r : ℕ) (ends numbers : List ℕ) → counted r (length all) ≡ accepted (length hits)

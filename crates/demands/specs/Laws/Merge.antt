@@ -58,7 +58,7 @@ lies-too image e t u w l =
 module _ (book : List ℕ) (tokens : List (List ℕ)) (read : readBook book ≡ accepted tokens) (image : List ℕ) where
   token-is : (i : ℕ) → 1 ≤ i → i ≤ length tokens → tokenIn book i ≡ getD tokens (i - 1) []
   token-is i h k =
-      ap (λ p. elim p [ found at n ↦ take n (drop at book) | missing ↦ [] | unread ↦ [] ]) (accepted-place book tokens read i h k)
+      ap (λ p. elim p [ found at n ↦ take n (drop at book) | missing ↦ [] | unread k v ↦ [] ]) (accepted-place book tokens read i h k)
       ∙ accepted-body book tokens read i h k
 
   -- A hit, with its token's bytes.

@@ -11,13 +11,13 @@ use Rattle.rules.specs.Tokens.{shortestOf, longestOf}
 use Rattle.rules.specs.Sweep.{happens}
 use Rattle.rules.specs.Laws.Tests.{decide}
 use Rattle.rules.specs.Laws.Alike.{trace-same}
-use Rattle.book.specs.Book.{readBook, accepted, refused, maxImage}
+use Rattle.book.specs.Book.{readBook, accepted, refused, maxImage, tooLong}
 use Rattle.book.specs.Laws.Accepted.{accepted-fit, accepted-shortest, accepted-setting, accepted-longest}
 use Rattle.tables.specs.Tables.{Tables, nodes, built, Lent}
 use Rattle.tables.specs.Walks.{ending, ofTables}
 use Rattle.tables.specs.Laws.Represents.{built-represents}
 use Rattle.scan.specs.declared.Scan.{Scan}
-use Rattle.scan.specs.Start.{started, start, tooLong}
+use Rattle.scan.specs.Start.{started, start}
 use Rattle.scan.specs.Answers.{answers}
 use Rattle.scan.specs.Laws.Walk.{Given, alike, fresh-sat, events-answers}
 

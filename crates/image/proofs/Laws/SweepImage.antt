@@ -9,12 +9,12 @@ use lib.ListN.{length, take, drop, length-append, length-take, length-drop, leng
 use Rattle.rules.specs.Words.{allWords}
 use Rattle.rules.specs.Tokens.{bodyBytes}
 use Rattle.rules.specs.Laws.Tests.{decide}
-use Rattle.book.specs.Book.{Verdict, Reading, accepted, refused, Totals, summary, readBook, maxImage}
+use Rattle.book.specs.Book.{Verdict, Reading, accepted, refused, Totals, summary, readBook, maxImage, tooLong}
 use Rattle.book.specs.Laws.Accepted.{Summed, accepted-fit}
 use Rattle.tables.specs.Tables.{Tables, nodes, built, Lent, written, tooShort, shortestTable, Sizes, sizesOf, Building, build}
 use Rattle.tables.specs.Laws.Made.{written-lent, answerTo, build-made}
 use Rattle.tables.specs.Laws.Represents.{built-represents}
-use Rattle.whole.specs.Image.{Swept, tooLong, room, hitsOf, fetchesOf, counted, noted, sweepImage}
+use Rattle.whole.specs.Image.{Swept, room, hitsOf, fetchesOf, counted, noted, sweepImage}
 use Rattle.image.specs.Results.{refusalFor}
 use Rattle.image.specs.Rule5.{tokensIn, tokensOf}
 use Rattle.image.specs.Sweeping.{Given}
@@ -47,7 +47,7 @@ module _ (image : List ℕ) (t : Tables) (ends numbers : List ℕ) where
     | refused k v ↦ untouched (refused k v)
     | accepted tokens ↦ elim (tooShort t tokens) [
       | true ↦ untouched (refused 7 (1 + bodyBytes tokens))
-      | false ↦ elim (tooLong image) [ true ↦ untouched (refused 8 maxImage) | false ↦ whole tokens ]
+      | false ↦ elim (tooLong (length image)) [ true ↦ untouched (refused 8 maxImage) | false ↦ whole tokens ]
     ]
   ]
 
@@ -87,7 +87,7 @@ module _ (book image : List ℕ) (t : Tables) (ends numbers : List ℕ) where
       → record { answer = v; fetched = f; tables = t; ends = ends; tokens = numbers } ≡ sweepImage book image t ends numbers
   answer-long h v f e z = rw z (ap (untouched image t ends numbers) e ∙ go (readBook book))
     where
-      long : tooLong image ≡ true
+      long : tooLong (length image) ≡ true
       long = lt-ltb maxImage (length image) h
 
       go : (r : Reading) → untouched image t ends numbers (refusalTo t r) ≡ sweptTo image t ends numbers r
@@ -182,7 +182,7 @@ module _ {book : List ℕ} (image : List ℕ) {t u : Tables} {sizes : Sizes} (b 
     to-whole : whole image t ends numbers ts ≡ sweptTo image t ends numbers (accepted ts)
     to-whole =
         let s = b .long in
-        let l : tooLong image ≡ false = le-ltb maxImage (length image) small in
+        let l : tooLong (length image) ≡ false = le-ltb maxImage (length image) small in
         cc
 
     module _ {hits fetched : ℕ} {ends′ numbers′ : List ℕ} (h : hits ≡ length found) (f : fetched ≡ fetchesOf ts image)

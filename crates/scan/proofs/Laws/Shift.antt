@@ -11,6 +11,7 @@ use lib.ListN.{length, getD, take, drop, length-append, length-drop}
 use lib.Seq.{take-at}
 use Rattle.rules.specs.Lists.{every, least, over}
 use Rattle.rules.specs.Laws.Tests.{split, least-ge, least-upto}
+use Rattle.rules.specs.Laws.Fits.{fits-every, fits-byte}
 use Rattle.rules.specs.Tokens.{fromRight, agrees, byteShift, shiftOf}
 use Rattle.agree.specs.Tests.{nodeTest, byteTest, leastOf}
 use Rattle.agree.specs.Laws.Least.{least-none, least-word}
@@ -106,7 +107,8 @@ node-fails u w best s some e h =
     let p = byteTest 0 (getD u (length u - 1) 0) w in
     let z : length u - 1 ≡ length u - 1 - 0 = omega arith in
     let fails : (m : ℕ) → p m ≡ false → nodeTest u w m ≡ false =
-    λ m a. every-fails (length u) (λ k. agrees w m k (fromRight u k)) (sym (ap (λ i. agrees w m 0 (getD u i 0)) z) ∙ a) (omega arith) in
+    λ m a. fits-every u w m ∙ every-fails (length u) (λ k. agrees w m k (fromRight u k))
+    (sym (ap (λ i. agrees w m 0 (getD u i 0)) z) ∙ sym (fits-byte (getD u (length u - 1) 0) w 0 m) ∙ a) (omega arith) in
     let l : 1 + (best - 1) ≤ least p 1 (best - 1) = omega (arith, least-ge p 1 (best - 1)) in
     omega (arith, least-fails p (nodeTest u w) fails 1 (best - 1) l, least-upto p 1 (best - 1))
 

@@ -1,5 +1,5 @@
 -- What the nodes stand for, from the facts of the built tables: children, leaves, token numbers, words, bytes and ancestors.
-use Prim.Native.Nat.{ℕ, zero, suc, _-_, _≤_, _<_}
+use Prim.Native.Nat.{ℕ, zero, suc, _+_, _-_, _≤_, _<_}
 use native.Mathlib.Omega.{arith}
 use mathlib.Core.Path.{_≡_, refl, ap, sym, _∙_}
 use mathlib.Core.Bool.{Bool, true, false, _&&_, not}
@@ -9,8 +9,8 @@ use borrow.Author.Tests.{eqb-true, eqb-false, lt-ltb, ltb-true}
 use lib.Dec.{eqb, ltb}
 use lib.ListN.{length, getD, take, drop, length-append}
 use lib.Seq.{append-snoc}
-use Rattle.rules.specs.Lists.{anyOf, every, least}
-use Rattle.rules.specs.Tokens.{agrees, fromRight, ends, grown, shiftOf}
+use Rattle.rules.specs.Lists.{anyOf, least}
+use Rattle.rules.specs.Tokens.{fits, ends, grown, shiftOf}
 use Rattle.rules.specs.Laws.Tests.{clash, same-test, not-test, and-l, and-r, or-r, below-suc, split, anyOf-in, anyOf-out, least-same}
 use Rattle.rules.specs.Laws.Endings.{ends→front, front→ends, ends-shorter}
 use Rattle.tables.specs.Tables.{Tables}
@@ -59,11 +59,11 @@ module _ (t : Tables) where
 
 pub shift-same : (a b : List (List ℕ)) → ((p : List ℕ → Bool) → anyOf p a ≡ anyOf p b) → (S : ℕ) (u : List ℕ) (c : Option ℕ) → shiftOf a S u c ≡ shiftOf b S u c
 shift-same a b f S u none =
-    cc (least-same (λ s. anyOf (λ t. every (length u) (λ k. agrees t s k (fromRight u k))) a) _ (λ s. f _) 1 (S - 1))
+    cc (least-same (λ s. anyOf (λ t. fits u t s) a) _ (λ s. f _) 1 (S - 1))
 shift-same a b f S u (some x) =
     cc (
-      least-same (λ s. anyOf (λ t. every (length u) (λ k. agrees t s k (fromRight u k))) a) _ (λ s. f _) 1 (S - 1),
-      least-same (λ s. anyOf (λ t. agrees t s (length u) x) a) _ (λ s. f _) 1 (S - 1),
+      least-same (λ s. anyOf (λ t. fits u t s) a) _ (λ s. f _) 1 (S - 1),
+      least-same (λ s. anyOf (λ t. fits (x ∷ []) t (length u + s)) a) _ (λ s. f _) 1 (S - 1),
     )
 
 module _ (ws : List (List ℕ)) (number : List ℕ → ℕ) (t : Tables) (n : ℕ) (fs : Facts ws number (length ws) t n) where

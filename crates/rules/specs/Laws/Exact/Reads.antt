@@ -58,7 +58,7 @@ module _ (image : List ℕ) (e n : ℕ) (fits : n ≤ e) (inside : e ≤ length 
   under-long : length under ≡ n
   under-long = simp (length-take, length-drop) (omega arith)
 
-  under-reads : Reads (byteOf image) under e
+  pub under-reads : Reads (byteOf image) under e
   under-reads k l =
       let z : length under ≡ n = under-long in
       let y : e - n + (n - 1 - k) ≡ e - 1 - k = omega arith in

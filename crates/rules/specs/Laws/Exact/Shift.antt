@@ -9,13 +9,14 @@ use mathlib.Core.Option.{Option, some, none}
 use borrow.Author.Tests.{leb-false, eq-eqb}
 use lib.Dec.{leb}
 use lib.ListN.{length}
-use Rattle.rules.specs.Lists.{anyOf, every}
-use Rattle.rules.specs.Tokens.{agrees, fromRight, nodeShift, byteShift, shiftOf}
+use Rattle.rules.specs.Lists.{anyOf}
+use Rattle.rules.specs.Tokens.{agrees, fits, fromRight, nodeShift, byteShift, shiftOf}
 use Rattle.rules.specs.Laws.Tests.{every-all, or-r, least-le, least-ge, least-upto}
+use Rattle.rules.specs.Laws.Fits.{fits-every, fits-byte}
 use Rattle.rules.specs.Laws.Exact.Reads.{Reads}
 
 pub shift-ge : (words : List (List ℕ)) (S : ℕ) (u : List ℕ) (o : Option ℕ) → 1 ≤ shiftOf words S u o
-shift-ge words S u o = omega (arith, least-ge (λ s. anyOf (λ t. every (length u) (λ k. agrees t s k (fromRight u k))) words) 1 (S - 1))
+shift-ge words S u o = omega (arith, least-ge (λ s. anyOf (λ t. fits u t s) words) 1 (S - 1))
 
 pub shift-upto : (words : List (List ℕ)) (S : ℕ) → 1 ≤ S → (u : List ℕ) (o : Option ℕ) → shiftOf words S u o ≤ S
 shift-upto words S h u o = omega (arith, node, byte o)
@@ -46,11 +47,11 @@ module _ (img : ℕ → ℕ) where
     node-le : (u : List ℕ) → Reads img u b → nodeShift words S u ≤ e - b
     node-le u q =
         least-le _ 1 (S - 1) (e - b) (omega arith)
-        (among _ (every-all (length u) _ λ k k<. agrees-read w b e k (fromRight u k) r h (q k k<)))
+        (among _ (fits-every u w (e - b) ∙ every-all (length u) _ λ k k<. agrees-read w b e k (fromRight u k) r h (q k k<)))
 
     byte-le : (d : ℕ) (o : Option ℕ) → Known (b - 1 - d) o → byteShift words S d o ≤ e - b
     byte-le d none q = omega arith
-    byte-le d (some x) q = least-le _ 1 (S - 1) (e - b) (omega arith) (among _ (agrees-read w b e d x r h q))
+    byte-le d (some x) q = least-le _ 1 (S - 1) (e - b) (omega arith) (among _ (fits-byte x w d (e - b) ∙ agrees-read w b e d x r h q))
 
     pub shift-le : (u : List ℕ) (o : Option ℕ) → Reads img u b → Known (b - 1 - length u) o → shiftOf words S u o ≤ e - b
     shift-le u o q k = omega (arith, node-le u q, byte-le (length u) o k)

@@ -1,0 +1,2 @@
+-- Of `lib.rt`, over plain lists and numbers.
+pub mod Fitting

@@ -1,0 +1,2 @@
+-- The promise holds, and only one answer keeps it (Tells).
+pub mod Tells
