@@ -116,7 +116,7 @@ byhand_found byhand_sweep(const uint8_t *book, const uint8_t *image, size_t n, u
     } kept[5];
     uint16_t met[LENGTHS];
     size_t used = 0, b = read_book(book), shortest = b;
-    byhand_found found = {0, 0};
+    byhand_found found = {0, 0, 0};
     build();
     memset(skip, 0, sizeof skip);
     memset(pairs, 0, sizeof pairs);
@@ -166,8 +166,8 @@ byhand_found byhand_sweep(const uint8_t *book, const uint8_t *image, size_t n, u
         found.fetched += b - low;
         if (used || d >= 4 * by) {
             for (size_t i = 0; i < used; i++) {
-                size_t left = kept[i].left, right = kept[i].right;
-                if (right > (left > low ? left : low)) found.fetched -= right - (left > low ? left : low);
+                size_t left = kept[i].left, right = kept[i].right, seen = left > low ? left : low;
+                if (right > seen) found.fetched -= right - seen, found.spared += right - seen;
                 if (left >= from) continue;
                 if (right > edge) edge = right;
                 if (4 * (b + by - right) <= right - left) kept[k++] = kept[i];

@@ -3,7 +3,7 @@
 #include <stdint.h>
 
 typedef struct {
-    uint64_t hits, fetched;
+    uint64_t hits, fetched, spared;
 } byhand_found;
 
 /* The book is not tested. The buffers have room for `room` hits each: ends rise, and at one end the longest token comes first. */

@@ -25,8 +25,8 @@ told probe_carry_on(size_t *state, size_t state_len, READ);
 told probe_supply(size_t *state, size_t state_len, READ, uint8_t byte);
 told probe_packet(size_t *state, size_t state_len, READ, const uint8_t *bytes, size_t bytes_len);
 
-/* The most entries of a table and bytes of a packet, and how many numbers a state has. */
-enum { ENTRIES = 16385, PACKET = 64, NUMBERS = 25 };
+/* The most entries of a table and bytes of a packet, how many numbers a state has, and which of them counts the bytes spared. */
+enum { ENTRIES = 16385, PACKET = 64, NUMBERS = 26, SPARED = 8 };
 static uint8_t book[20000];
 static size_t book_len;
 static uint16_t parent[ENTRIES], token[ENTRIES], first[ENTRIES], next[ENTRIES];

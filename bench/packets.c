@@ -5,9 +5,9 @@
 enum { PART = 1 << 16, SIZES = 4 };
 static const size_t sizes[SIZES] = {8, 16, 32, PACKET};
 
-/* What a sweep sent and used, and its hits: how many, and all of them in their order as one number. */
+/* What a sweep sent, used and spared, and its hits: how many, and all of them in their order as one number. */
 typedef struct {
-    size_t packets, sent, used, hits;
+    size_t packets, sent, used, spared, hits;
     uint64_t noted;
 } tally;
 
@@ -50,10 +50,11 @@ static tally sweep(size_t size) {
         else r = send_packet(state, r.numbers[0], size, &t);
     }
     need(r.kind == 3, "a sweep was refused");
+    t.spared = state[SPARED];
     return t;
 }
 
-static int alike(tally a, tally b) { return a.used == b.used && a.hits == b.hits && a.noted == b.noted; }
+static int alike(tally a, tally b) { return a.used == b.used && a.spared == b.spared && a.hits == b.hits && a.noted == b.noted; }
 
 static void row(const char *image_name, const char *book_name) {
     build_tables();
@@ -61,7 +62,7 @@ static void row(const char *image_name, const char *book_name) {
     printf("%-8s %-10s %8zu %8zu %6.1f%%", image_name, book_name, singly.hits, singly.used, 100.0 * singly.used / PART);
     for (size_t i = 0; i < SIZES; i++) {
         tally t = sweep(sizes[i]);
-        need(alike(t, singly), "a sweep by packets used other bytes or found other hits than one by single bytes");
+        need(alike(t, singly), "a sweep by packets used or spared other bytes, or found other hits, than one by single bytes");
         printf(" %7zu %5.1f%%", t.packets, 100.0 * t.used / t.sent);
     }
     printf("\n");

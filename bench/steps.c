@@ -55,7 +55,7 @@ static void make_packet(void) {
 
 /* A state as large as the proved one, and what a step hands back. */
 typedef struct {
-    size_t numbers[8], stretches[5][3], supplied;
+    size_t numbers[8], stretches[5][3], supplied, spared;
     uint8_t due;
 } state;
 typedef struct {

@@ -45,12 +45,12 @@ static uint64_t noted(uint64_t hits) {
     return sum;
 }
 
-/* The three find the same hits in the same order, the first two for as many bytes; the automaton may be missing. */
+/* The three find the same hits in the same order, the first two for as many bytes fetched and spared; the automaton may be missing. */
 static int agree(void) {
     proved();
     uint64_t wanted = noted(swept.hits);
     hand();
-    if (swept.refusal || noted(byhand.hits) != wanted || swept.fetched != byhand.fetched) return 0;
+    if (swept.refusal || noted(byhand.hits) != wanted || swept.fetched != byhand.fetched || swept.spared != byhand.spared) return 0;
 #ifdef CORASICK
     automaton();
     if (noted(corasick) != wanted) return 0;
@@ -65,13 +65,15 @@ static void row(const char *image_name, const char *book_name) {
         fprintf(stderr, "%s, %s: the three do not agree\n", image_name, book_name);
         exit(1);
     }
-    printf("%-8s %-10s %8zu %8.1f%% %7.2f ms %7.2f ms %7.2f ms %8.2f %10.2f\n", image_name, book_name, (size_t)swept.hits,
-           100.0 * swept.fetched / N, best[0] * 1e3, best[1] * 1e3, best[2] * 1e3, best[1] / best[0], best[2] / best[0]);
+    printf("%-8s %-10s %8zu %8.1f%% %6.1f%% %7.2f ms %7.2f ms %7.2f ms %8.2f %10.2f\n", image_name, book_name, (size_t)swept.hits,
+           100.0 * swept.fetched / N, 100.0 * swept.spared / (swept.fetched + swept.spared), best[0] * 1e3, best[1] * 1e3, best[2] * 1e3,
+           best[1] / best[0], best[2] / best[0]);
 }
 
 int main(void) {
-    printf("%-8s %-10s %8s %9s %10s %10s %10s %8s %10s\n", "image", "book", "hits", "fetched", "proved", "by hand", "automaton", "by hand/",
-           "automaton/");
+    printf("fetched: of the image's bytes; spared: of the bytes looked at\n");
+    printf("%-8s %-10s %8s %9s %7s %10s %10s %10s %8s %10s\n", "image", "book", "hits", "fetched", "spared", "proved", "by hand",
+           "automaton", "by hand/", "automaton/");
     each_image(row);
     return 0;
 }

@@ -91,7 +91,7 @@ int main(int many, char **names) {
     if (swept.refusal) return refuse(swept.refusal, swept.value);
     printf("image %zu tokens %u\n", image_len, tokens_in(built.nodes));
     for (uint64_t i = 0; i < swept.hits; i++) printf("hit %lu %lu\n", (unsigned long)ends[i], (unsigned long)tokens[i]);
-    printf("end %llu %llu\n", (unsigned long long)swept.hits, (unsigned long long)swept.fetched);
+    printf("end %llu %llu %llu\n", (unsigned long long)swept.hits, (unsigned long long)swept.fetched, (unsigned long long)swept.spared);
     free(ends), free(tokens), free(book), free(image);
     if (fflush(stdout) || ferror(stdout)) stop("output", strerror(errno));
     return 0;

@@ -55,9 +55,10 @@ lonnatchi_built lonnatchi_build(const uint8_t *book, size_t book_len, uint16_t *
                                 size_t label_len, uint16_t *token, size_t token_len, uint16_t *first_child, size_t first_child_len,
                                 uint16_t *next_sibling, size_t next_sibling_len);
 
-/* The numbers of hits and of bytes fetched. */
+/* The numbers of hits, of bytes fetched, and of bytes spared: those that the sweep looked at and took from what it remembers, instead of
+ * fetching them again. */
 typedef struct {
-    uint64_t refusal, value, hits, fetched;
+    uint64_t refusal, value, hits, fetched, spared;
 } lonnatchi_swept;
 
 /* Finds every token of the book in the image, card numbers in either order. Hit i ends before image byte ends[i], and is token number

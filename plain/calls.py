@@ -1,7 +1,8 @@
 #!/usr/bin/env python3
 """Compares the proved calls with the plain readings of the papers: every answer, and all that the lent tables and states then hold, with
-what lies around them. The books of books.py, the states of steps.py and the images of fits.py come first, and must be as many as COUNTS
-says and meet all that `wanted` names in each; then fresh random ones. Fails at the first difference and says where.
+what lies around them; and after each call of a list from a fresh start, the state's counts of bytes fetched and spared with the list's
+history. The books of books.py, the states of steps.py, the lists of history.py and the images of fits.py come first, and must be as many as
+COUNTS says and meet all that `wanted` names in each; then fresh random ones. Fails at the first difference and says where.
 
   plain/calls.py            with a new seed, which it prints
   plain/calls.py --seed N   the random cases of that seed again
@@ -13,14 +14,15 @@ import sys
 
 import books
 import fits
+import history
 import proved
 import steps
 import tables
 from fits import FAR
 from proved import BYTES, ENTRIES, NUMBERS, Byte, Lent
 
-COUNTS = (813, 2108, 27412, 9969, 67465)  # books, states, steps from them, images, and questions about them
-FRESH = (3000, 2000, 800, 15000)  # random books, states, whole sweeps, and images
+COUNTS = (813, 2387, 32230, 319, 18581, 9969, 67465)  # books, states, steps from them, lists, their calls, images, questions about them
+FRESH = (3000, 2000, 800, 1000, 15000)  # random books, states, whole sweeps, lists, and images
 FILL = 0xA5  # in lent tables
 BEHIND = [7, 0, 2**64 - 1]  # behind the numbers of a state
 NO_STATE = (4, 0, 0, 0, 0)
@@ -157,11 +159,25 @@ def step(state, slices, what, wanted, after=()):
 
 
 def state_case(lists, state, calls):
-    slices, state = lend(lists), copy.deepcopy(state)
+    """Of each call: its answer, how many bytes it used, and how many were fetched and spared by then, as the state has it."""
+    slices, state, said_so = lend(lists), copy.deepcopy(state), []
     lent = Lent(NUMBERS, state.numbers() + BEHIND)
     for what in calls:
         said, used = steps.call(lists, state, what)
         step(lent, slices, what, step_told(what, said, used), {0: state.numbers() + BEHIND}.items())
+        said_so.append((said, used, *steps.billed(lent.content())))
+    return said_so
+
+
+def list_case(bodies, n, calls):
+    """From a fresh start: each answer in turn is the rules', and fetched and spared together are the bytes they looked at by then."""
+    lists, shortest, count = steps.built(bodies)
+    start_case(n, shortest, count)
+    said_so = state_case(lists, steps.State(n, shortest, count), calls)
+    past = [(history.brought(what)[:used], said) for what, (said, used, *_) in zip(calls, said_so)]
+    for (said, _, fetched, spared), wanted in zip(said_so, history.accounts(bodies, n, past)):
+        if (said, fetched, fetched + spared) != wanted:
+            raise Differs(f"{said}, {fetched} bytes fetched and {spared} spared; by the history {wanted}, the last of bytes looked at")
 
 
 def start_case(n, shortest, nodes):
@@ -218,6 +234,8 @@ def fresh(rng):
         yield no_state, (case[0], cut, rng.choice(STEPS))
         yield start_case, (rng.choice([rng.randint(0, 99), steps.IMAGE + rng.randint(-1, 1)]), rng.randint(0, 2000), rng.randint(0, 20000))
     for _ in range(FRESH[3]):
+        yield list_case, history.some_list(rng)
+    for _ in range(FRESH[4]):
         yield fit_case, fits.some_case(rng)
 
 
@@ -242,17 +260,19 @@ def main():
     parser.add_argument("--seed", type=int, default=random.SystemRandom().randrange(2**32))
     seed = parser.parse_args().seed
     print(f"calls: seed {seed}", flush=True)
-    all_books, all_states, all_fits = list(books.cases()), list(steps.cases()), list(fits.cases())
-    counts = (len(all_books), *counted(all_states), *counted(all_fits))
+    parts = (books, steps, history, fits)
+    all_books, all_states, all_lists, all_fits = fixed = [list(part.cases()) for part in parts]
+    counts = (len(all_books), *counted(all_states), *counted(all_lists), *counted(all_fits))
     if counts != COUNTS:
-        sys.exit(f"calls: {counts} books, states, steps, images and questions, wanted {COUNTS}")
+        sys.exit(f"calls: {counts} books, states, steps, lists, calls, images and questions, wanted {COUNTS}")
     steps.seen.clear()
     run("book", ((book_case, case) for case in all_books))
     run("state", ((state_case, case) for case in all_states))
-    run("image", ((fit_case, case) for case in all_fits))
     met = {name for name in steps.wanted() if steps.seen[name]}
-    met |= {name for part, cases in ((books, all_books), (fits, all_fits)) for case in cases for name in part.causes(*case)}
-    causes = [*books.wanted(), *steps.wanted(), *fits.wanted()]
+    run("list", ((list_case, case) for case in all_lists))
+    run("image", ((fit_case, case) for case in all_fits))
+    met |= {name for part, cases in zip(parts, fixed) if part is not steps for case in cases for name in part.causes(*case)}
+    causes = [name for part in parts for name in part.wanted()]
     missing = [name for name in causes if name not in met]
     if missing:
         sys.exit("calls: no case meets: " + "; ".join(missing))
@@ -260,9 +280,9 @@ def main():
     run("no state", no_states())
     run(f"seed {seed}, case", fresh(random.Random(seed)))
     print(
-        f"calls: {counts[0]} books, {counts[1]} states with {counts[2]} steps and {counts[3]} images with {counts[4]} questions "
-        f"about them, which meet {len(causes)} causes, and {FRESH[0]} books, {FRESH[1] + FRESH[2]} states and {FRESH[3]} images of seed {seed}: "
-        f"{made} calls tell and leave what the plain readings say"
+        f"calls: {counts[0]} books, {counts[1]} states with {counts[2]} steps, {counts[3]} lists of {counts[4]} calls and {counts[5]} "
+        f"images with {counts[6]} questions about them, which meet {len(causes)} causes, and {FRESH[0]} books, {FRESH[1] + FRESH[2]} "
+        f"states, {FRESH[3]} lists and {FRESH[4]} images of seed {seed}: {made} calls tell and leave what the plain readings say"
     )
 
 

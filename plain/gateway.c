@@ -189,17 +189,21 @@ static int ending(const uint8_t *end, size_t d, size_t more) {
     return 0;
 }
 
-/* How many bytes the reading rules fetch. */
-static uint64_t fetches(const uint8_t *image, size_t n) {
+/* How many bytes the reading rules fetch, and how many they take from stretches instead. */
+typedef struct {
+    uint64_t fetched, spared;
+} bill;
+
+static bill billed(const uint8_t *image, size_t n) {
     size_t left[8], right[8], used = 0, b = told.shortest;
-    uint64_t fetched = 0;
+    bill all = {0, 0};
     while (b <= n) {
         size_t d = 0, k = 0;
         int closed = 0;
         while (!closed && d < b && ending(image + b, d, 1)) {
             size_t at = b - 1 - d, known = 0;
             for (size_t i = 0; i < used; i++) known |= left[i] <= at && at < right[i];
-            fetched += !known;
+            all.fetched += !known, all.spared += known;
             if (ending(image + b, d + 1, 0)) d++;
             else closed = 1;
         }
@@ -212,12 +216,12 @@ static uint64_t fetches(const uint8_t *image, size_t n) {
         if (4 * (to - b) <= b - edge) left[k] = edge, right[k++] = b;
         used = k, b = to;
     }
-    return fetched;
+    return all;
 }
 
 /* Lends tables and buffers of these lengths to both calls, and compares. What the plain reading says of the book and the image stands. */
 static void compare(const uint8_t *book, size_t book_len, const uint8_t *image, size_t n, const size_t lens[5], size_t ends_len,
-                    size_t tokens_len, uint64_t fetched) {
+                    size_t tokens_len, bill wanted) {
     static const size_t widths[5] = {2, 1, 2, 2, 2};
     static const char *const names[5] = {"parent", "label", "token", "first child", "next sibling"};
     lent t[5], u[5], ends = lend(4, ends_len), tokens = lend(4, tokens_len);
@@ -239,7 +243,8 @@ static void compare(const uint8_t *book, size_t book_len, const uint8_t *image, 
     lonnatchi_swept r = lonnatchi_sweep(book, book_len, image, n, data(&u[0]), lens[0], data(&u[1]), lens[1], data(&u[2]), lens[2],
                                         data(&u[3]), lens[3], data(&u[4]), lens[4], data(&ends), ends_len, data(&tokens), tokens_len);
     same("sweep's refusal", r.refusal, number), same("sweep's value", r.value, value);
-    same("hits", r.hits, number ? 0 : hits), same("fetched", r.fetched, number ? 0 : fetched);
+    same("hits", r.hits, number ? 0 : hits), same("fetched", r.fetched, number ? 0 : wanted.fetched);
+    same("spared", r.spared, number ? 0 : wanted.spared);
     for (int i = 0; i < 5; i++) holds(names[i], &u[i], table[i], built);
     holds("ends", &ends, hit_end, noted), holds("tokens", &tokens, hit_token, noted);
     for (int i = 0; i < 5; i++) give_back(&t[i]), give_back(&u[i]);
@@ -247,24 +252,25 @@ static void compare(const uint8_t *book, size_t book_len, const uint8_t *image, 
     calls++;
 }
 
-/* Reads, builds and searches plainly; the number of bytes fetched. */
-static uint64_t plainly(const uint8_t *book, size_t book_len, const uint8_t *image, size_t n) {
+/* Reads, builds and searches plainly; the numbers of bytes fetched and spared. */
+static bill plainly(const uint8_t *book, size_t book_len, const uint8_t *image, size_t n) {
+    static const bill none;
     nodes = hits = 0;
     cases++;
-    if (!read_book(book, book_len)) return 0;
+    if (!read_book(book, book_len)) return none;
     build(), search(image, n < LIMIT ? n : LIMIT);
-    return n <= LIMIT ? fetches(image, n) : 0;
+    return n <= LIMIT ? billed(image, n) : none;
 }
 
 /* Compares with hit buffers of every length from none to one more than enough, where hits are few; of some lengths, where they are many. */
 static void check(const uint8_t *book, size_t book_len, const uint8_t *image, size_t n, const size_t lens[5]) {
-    uint64_t fetched = plainly(book, book_len, image, n);
+    bill wanted = plainly(book, book_len, image, n);
     size_t most = hits < 8 ? hits + 1 : 0;
     for (size_t i = 0; i <= most; i++)
         for (size_t k = 0; k <= most; k++)
-            if (most) compare(book, book_len, image, n, lens, i, k, fetched);
-    for (size_t i = 0; i < 3 && !most; i++) compare(book, book_len, image, n, lens, below(hits + 2), i ? hits + 1 : below(hits + 2), fetched);
-    if (!most) compare(book, book_len, image, n, lens, hits, hits, fetched);
+            if (most) compare(book, book_len, image, n, lens, i, k, wanted);
+    for (size_t i = 0; i < 3 && !most; i++) compare(book, book_len, image, n, lens, below(hits + 2), i ? hits + 1 : below(hits + 2), wanted);
+    if (!most) compare(book, book_len, image, n, lens, hits, hits, wanted);
 }
 
 static uint8_t book[BOOK], *image;
@@ -378,10 +384,10 @@ static void nested_case(void) {
     for (size_t i = 0; i < sizeof body; i++) body[i] = 'a' + below(letters);
     nested_book(body);
     size_t n = nested_image(body, letters);
-    uint64_t fetched = plainly(book, book_len, image, n);
+    bill wanted = plainly(book, book_len, image, n);
     for (size_t room = 0; room <= hits + 1; room += room < 30 ? 1 : 1 + below(hits / 8 + 1)) {
-        compare(book, book_len, image, n, lens, room, hits + below(2), fetched);
-        compare(book, book_len, image, n, lens, room + below(2), room, fetched);
+        compare(book, book_len, image, n, lens, room, hits + below(2), wanted);
+        compare(book, book_len, image, n, lens, room + below(2), room, wanted);
     }
 }
 
@@ -408,6 +414,23 @@ static void every_length(int falling) {
 static void random_image(size_t size) {
     for (size_t i = 0; i < 20000; i++) image[i] = some();
     for (size_t at = 5000; at < 20000; at += 5000) plant(book + 1, size, at);
+}
+
+/* More bytes spared than 32 bits count: "b", and "b" before 1,023 times "a", in an image of "a" alone. The round at boundary b looks at b
+ * bytes, or at 1,024 if b is more, so the bytes fetched and spared are known in all. */
+static void billions(size_t n) {
+    static uint16_t t[4][ENTRIES];
+    static uint8_t labels[ENTRIES], body[1024];
+    static uint32_t none[2];
+    memset(body, 'a', sizeof body), body[0] = 'b';
+    book_len = 0;
+    add(body, 1), add(body, sizeof body);
+    book[book_len++] = 0;
+    memset(image, 'a', n);
+    lonnatchi_swept r = lonnatchi_sweep(book, book_len, image, n, t[0], ENTRIES, labels, ENTRIES, t[1], ENTRIES, t[2], ENTRIES, t[3], ENTRIES,
+                                        none, 0, none + 1, 0);
+    same("refusal", r.refusal, 0), same("hits", r.hits, 0), same("looks", r.fetched + r.spared, 1024 * (uint64_t)n - 1023 * 512);
+    same("spared past 32 bits", r.spared >> 32, 1);
 }
 
 int main(void) {
@@ -442,6 +465,7 @@ int main(void) {
         for (size_t k = 0; k <= LIMIT; k++) image[k] = i ? some() : 'a';
         full(LIMIT), full(LIMIT + 1);
     }
+    billions(4400000);
     printf("gateway: %lu books and images, %lu calls of each function agree with the plain reading\n", cases, calls);
     return 0;
 }

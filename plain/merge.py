@@ -1,8 +1,9 @@
 #!/usr/bin/env python3
 """Compares the proved merge of two books with the plain one: every answer, and all that the output then holds, with what lies around it and
 the two books. The pairs of books.py come first, with outputs of lengths about the one needed; they must be as many as COUNTS says and meet
-all that `wanted` names; then fresh random ones. Some of these are swept with both books and the merged one, by single bytes and as a whole:
-the merged book finds, by token bytes, what the two find, each hit once and in its order. Fails at the first difference and says where.
+all that `wanted` names; then fresh random ones. Some of these are swept with both books and the merged one, by single bytes and as a whole,
+with as many bytes fetched and spared: the merged book finds, by token bytes, what the two find, each hit once and in its order. Fails at
+the first difference and says where.
 
   plain/merge.py            with a new seed, which it prints
   plain/merge.py --seed N   the random cases of that seed again
@@ -26,9 +27,9 @@ COUNTS = (253, 1476)  # pairs, and merges of them
 FRESH, SWEPT = 4200, 300  # random pairs, and those of them that are swept
 LONGEST = 2000  # bytes of a merged book to sweep with: a step goes over all its nodes
 
-# What the fixed pairs met, by name; and the hits found with merged books.
+# What the fixed pairs met, by name; the hits found with merged books; and the bytes spared in all sweeps.
 seen = collections.Counter()
-found = 0
+found = spared = 0
 
 
 def held(room):
@@ -138,7 +139,7 @@ def room_for(book):
 
 
 def by_bytes(book, image):
-    """The hits (end, token) of the sweep by single bytes."""
+    """The hits (end, token) of the sweep by single bytes, and the bytes fetched and spared."""
     lent, state, slices = Lent(BYTES, book), Lent(NUMBERS, [0] * steps.SIZE), room_for(book)
     _, nodes, shortest, *_ = proved.call("probe_build", lent, *slices)
     proved.call("probe_start", state, len(image), shortest, nodes)
@@ -151,32 +152,36 @@ def by_bytes(book, image):
             kind, *values = proved.call("probe_carry_on", state, *slices)
         else:
             raise Differs(f"the sweep by single bytes is refused: {values}")
-    return hits
+    return hits, *steps.billed(state.content())
 
 
 def as_a_whole(book, image):
-    """Those of the gateway's sweep."""
+    """The same of the gateway's sweep."""
     most = len(image) * len(tables.read(book)[1])
     ends, tokens = Lent(HITS, [0] * most), Lent(HITS, [0] * most)
-    refusal, value, hits, _ = proved.sweep(Lent(BYTES, book), Lent(BYTES, image), *room_for(book), ends, tokens)
+    refusal, value, hits, *bill = proved.sweep(Lent(BYTES, book), Lent(BYTES, image), *room_for(book), ends, tokens)
     if refusal:
         raise Differs(f"the sweep of the whole image is refused: {refusal} {value}")
-    return list(zip(ends.content()[:hits], tokens.content()[:hits]))
+    return list(zip(ends.content()[:hits], tokens.content()[:hits])), *bill
 
 
-def by_search(book, image):
-    return sweep.search(tables.read(book)[1], image)
+def plainly(bodies, image):
+    """The same by a search, and by the reading rules round by round."""
+    return sweep.search(bodies, image), *sweep.bill(bodies, image)
 
 
 def swept(book, image):
     """The hits as pairs of end and token bytes, a body and its reverse being one token; every way of sweeping finds the same, in the same
-    order."""
-    bodies, plain = tables.read(book)[1], by_search(book, image)
+    order, and with the same bytes fetched and spared."""
+    global spared
+    bodies = tables.read(book)[1]
+    plain = plainly(bodies, image)
     for way in (by_bytes, as_a_whole):
-        hits = way(book, image)
-        if hits != plain:
-            raise Differs(f"{way.__name__} finds {hits}, a search {plain}")
-    return [(end, min(tables.words(bodies[number - 1]))) for end, number in plain]
+        said = way(book, image)
+        if said != plain:
+            raise Differs(f"{way.__name__} says {said}, the plain readings {plain}")
+    spared += plain[2]
+    return [(end, min(tables.words(bodies[number - 1]))) for end, number in plain[0]]
 
 
 def joined(hits, others):
@@ -260,12 +265,12 @@ def main():
         sys.exit("merge: no pair meets: " + "; ".join(missing))
     run("pair", all_fixed)
     ran = run(f"seed {seed}, case", fresh(random.Random(seed)))
-    if ran["union_case"] < SWEPT or not found:
-        sys.exit(f"merge: only {ran['union_case']} pairs were swept, with {found} hits")
+    if ran["union_case"] < SWEPT or not found or not spared:
+        sys.exit(f"merge: only {ran['union_case']} pairs were swept, with {found} hits and {spared} bytes spared")
     print(
         f"merge: {counts[0]} pairs of books with {counts[1]} outputs, which meet {len(list(wanted()))} causes, and {FRESH} pairs of seed "
         f"{seed}: {calls.made} calls tell and leave what the plain reading says; {SWEPT} pairs are swept, and the merged book finds the "
-        f"{found} hits of the two"
+        f"{found} hits of the two; by single bytes and as a whole the same bytes are fetched, and the same {spared} spared"
     )
 
 

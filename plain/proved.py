@@ -19,7 +19,7 @@ class Told(ctypes.Structure):
 
 
 class Swept(ctypes.Structure):
-    _fields_ = [(name, ctypes.c_uint64) for name in ("refusal", "value", "hits", "fetched")]
+    _fields_ = [(name, ctypes.c_uint64) for name in ("refusal", "value", "hits", "fetched", "spared")]
 
 
 class Lent:
@@ -79,8 +79,9 @@ def call(name, *given):
 
 
 def sweep(*given):
-    """What the gateway's sweep of a whole image tells: a refusal (0: none) and its value, the numbers of hits and of bytes fetched."""
+    """What the gateway's sweep of a whole image tells: a refusal (0: none) and its value, the numbers of hits, of bytes fetched and of
+    bytes spared."""
     function = load("gateway").lonnatchi_sweep
     function.restype = Swept
     told = function(*passed(given))
-    return (told.refusal, told.value, told.hits, told.fetched)
+    return (told.refusal, told.value, told.hits, told.fetched, told.spared)

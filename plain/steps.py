@@ -1,8 +1,8 @@
 """The sweep by single bytes and by packets, plainly, from the papers alone, and states to step from.
 
 A case is five tables, a state and the calls made from it: CARRY to carry on, a byte to supply, or a packet, which is a run of bytes. `seen`
-counts the causes of refusals 9, 10, 11 and 15, the ends of ranges, the kinds of answers, the ways packets ended and what reverses made that
-calls met; `wanted` names those that some case must meet.
+counts the causes of refusals 9, 10, 11 and 15, the ends of ranges, the kinds of answers, the ways packets ended, how remembered bytes were
+taken and what reverses made that calls met; `wanted` names those that some case must meet.
 """
 import collections
 import copy
@@ -12,8 +12,9 @@ import random
 import tables
 
 CARRY = 256
-NODES, IMAGE, BODY, MOST, RUN = 16385, 16777216, 1024, 1000000000, 64
-SIZE = 25  # numbers of a state
+NODES, IMAGE, BODY, RUN = 16385, 16777216, 1024, 64
+MOST, SPARED = 1000000000, 20000000000  # the counts of bytes supplied and of bytes spared stop here
+SIZE = 26  # numbers of a state
 TABLES = ("parent", "label", "token", "first child", "next sibling")
 
 # What the cases met, by name.
@@ -21,21 +22,28 @@ seen = collections.Counter()
 
 
 class State:
-    def __init__(self, image, shortest, count, boundary=None, node=0, depth=0, due=False, slots=(), supplied=0, end=0, hit=0):
+    def __init__(self, image, shortest, count, boundary=None, node=0, depth=0, due=False, slots=(), supplied=0, spared=0, end=0, hit=0):
         self.image, self.shortest, self.count = image, shortest, count
         self.boundary = shortest if boundary is None else boundary
-        self.node, self.depth, self.due, self.supplied = node, depth, due, supplied
+        self.node, self.depth, self.due = node, depth, due
+        self.supplied, self.spared = supplied, spared  # bytes fetched, and bytes taken from stretches instead
         self.slots = [list(s) for s in slots] + [[0, 0, 0] for _ in range(5 - len(slots))]
         self.end, self.hit = end, hit  # of the hits left: their end, and the node of the next
-        # No parts of the state: the last answer's word, the last hit's node, and of a book's tables the nodes where a reverse ends.
-        self.said, self.met, self.reverses = None, 0, frozenset()
+        # No parts of the state: the last answer's word, the last hit's node, the remembered bytes taken so far, each as its place and
+        # whether it closed its round, and of a book's tables the nodes where a reverse ends.
+        self.said, self.met, self.recalled, self.reverses = None, 0, [], frozenset()
 
     def numbers(self):
-        first = [self.image, self.shortest, self.count, self.boundary, self.node, self.depth, int(self.due), self.supplied]
+        first = [self.image, self.shortest, self.count, self.boundary, self.node, self.depth, int(self.due), self.supplied, self.spared]
         return [*first, *(x for s in self.slots for x in s), self.end, self.hit]
 
     def stretches(self):
         return [s for s in self.slots if any(s)]
+
+
+def billed(numbers):
+    """Of a state's numbers, those of bytes fetched and of bytes spared."""
+    return numbers[7:9]
 
 
 # The reading rules
@@ -77,6 +85,11 @@ def recall(lists, state, place):
         if left <= place < right:
             return ending(lists, node)[place - left]
     return None
+
+
+def at_remembered(lists, s):
+    """Whether the rules take the next byte from a stretch."""
+    return s.hit == 0 and s.boundary <= s.image and lists[3][s.node] > 0 and recall(lists, s, s.boundary - 1 - s.depth) is not None
 
 
 def shifts(lists, s, closing, left_out=frozenset()):
@@ -150,7 +163,8 @@ def settle(lists, s, last="before the call"):
         if x is None:
             s.due = True
             return f"fetch {place}"
-        seen["rule 2: remembered"] += 1
+        s.spared = min(SPARED, s.spared + 1)
+        s.recalled.append((place, child(lists, s.node, x) is None))
         last = "remembered"
         take(lists, s, x, last)
     return answered(lists, s)
@@ -171,7 +185,7 @@ def packet(lists, s, run):
         said = supply(lists, s, run[used], "of a packet")
         used += 1
     note_packet(run, used, place, said)
-    note_count(before, used)
+    note_count("a packet", before, used, MOST)
     return said, used
 
 
@@ -238,6 +252,7 @@ def state_ranges(lists, s):
     yield "d", deep(lists, s.node), s.depth, deep(lists, s.node)
     yield "b", s.depth, s.boundary, s.image + BODY
     yield "supplied", 0, s.supplied, MOST
+    yield "spared", 0, s.spared, SPARED
     before = 0
     for left, right, node in s.stretches():
         yield f"{'next' if before else 'first'} stretch's left", before, left, 2**64
@@ -298,7 +313,7 @@ ALONE = (
     "9: first child one above", "9: first child of another parent",
     "9: next sibling one below", "9: next sibling far below", "9: next sibling one above", "9: next sibling of another parent",
     "10: node count one above", "10: N one above", "10: S one below", "10: S one above", "10: node one above",
-    "10: d one below", "10: d one above", "10: b one below", "10: b one above", "10: supplied one above",
+    "10: d one below", "10: d one above", "10: b one below", "10: b one above", "10: supplied one above", "10: spared one above",
     "10: next stretch's left one below", "10: next stretch's left far below", "10: stretch's right one above",
     "10: stretch's distance from b one below", "10: four times its distance one above", "10: stretch's node one above",
     "10: stretch's length one below", "10: stretch's length one above", "10: unused slot before one in use",
@@ -316,8 +331,9 @@ NEVER_ALONE = (
 )
 WITHIN = (
     "node count least", "node count greatest", "N least", "N greatest", "S least", "S greatest", "node greatest", "d least",
-    "b least", "b greatest", "supplied greatest", "first stretch's left least", "next stretch's left least", "stretch's right greatest",
-    "stretch's distance from b least", "four times its distance greatest", "stretch's node greatest", "stretch's length least",
+    "b least", "b greatest", "supplied greatest", "spared greatest", "first stretch's left least", "next stretch's left least",
+    "stretch's right greatest", "stretch's distance from b least", "four times its distance greatest", "stretch's node greatest",
+    "stretch's length least",
     "four stretches", "a byte due", "a node 1,024 deep", "token number 256", "entries behind the nodes",
     "end with no hit left greatest", "hit's node least", "hit's node greatest", "hit's token least", "end least", "end greatest",
     "b's distance from the end least", "b's distance from the end greatest", "stretch's right with a hit left greatest",
@@ -332,6 +348,7 @@ SHIFTS = ("a node shift", "a byte shift", "a shift")
 # Whether a packet has bytes left, how many it used, and what it answered, seen from the place of the last one used.
 RESTS, USED = ("used whole", "with bytes left"), ("no byte", "one byte", "several bytes")
 NEXT, THEN = "fetch the next place down", ("hit", "done", "fetch a higher place", "fetch a place below a stretch")
+LIMITS = ("at", "up to", "past", "from one below past")  # how what one call adds stands to the count's limit
 
 
 def wanted():
@@ -349,7 +366,8 @@ def wanted():
     yield from wanted_of_packets()
     yield from (f"9: shortest of 4, {name}" for name in TABLES)
     yield from (f"within: {what}" for what in WITHIN)
-    yield from ("rule 2: remembered", "rule 4: forgotten", "rule 4: cut", "rule 6: not kept", "rule 6: just kept")
+    yield from wanted_of_memory()
+    yield from ("rule 4: forgotten", "rule 4: cut", "rule 6: not kept", "rule 6: just kept")
     yield from (f"rule 5: {what} that only a reverse makes" for what in SHIFTS)
     yield from (f"{what}, of a reverse" for what in (*HITS[False], *HITS[True]))
     yield from ("hit of a reverse at an inner node", *(f"hit of a reverse, {kind}" for kind in KINDS))
@@ -367,7 +385,19 @@ def wanted_of_packets():
         yield from (f"a packet {rest}, {used} used, then {then}" for used in USED[1:] for then in THEN)
         yield from (f"a packet {rest} at place 0, then {then}" for then in THEN[:3])
     yield "a packet on past a token"
-    yield from (f"a packet {way} the count's limit" for way in ("at", "up to", "past", "from one below past"))
+    yield from (f"a packet {way} the count's limit" for way in LIMITS)
+
+
+def wanted_of_memory():
+    """A round's first place is never remembered: carrying on takes remembered bytes only of the round in which the given state stands, and
+    none again."""
+    for kind in KINDS:
+        yield from (f"{what} remembered, {kind}" for what in ("a match", "a closing byte", "several bytes"))
+        yield from (f"remembered bytes, {kind}, {way} the count's limit" for way in LIMITS)
+        yield f"remembered bytes past a count of 2^32, {kind}"
+    for kind in KINDS[1:]:
+        yield from (f"a remembered place again, {kind}", f"11 at a remembered place, {kind}")
+    yield "15 at a remembered place"
 
 
 def note(causes, kind):
@@ -414,12 +444,23 @@ def note_packet(run, used, place, said):
     seen[f"a packet {rest} at place 0, then {then}"] += used > 0 and last == 0
 
 
-def note_count(before, used):
-    """How a packet stands to the greatest count of bytes supplied."""
-    seen["a packet at the count's limit"] += before == MOST and used > 0
-    seen["a packet up to the count's limit"] += before < MOST == before + used and used > 1
-    seen["a packet past the count's limit"] += before < MOST < before + used
-    seen["a packet from one below past the count's limit"] += before == MOST - 1 and used > 1
+def note_count(what, before, many, most):
+    """How so many bytes in one call stand to the greatest count of them: at it, up to it, past it by several, past it from one below."""
+    holds = (before == most and many > 0, before < most == before + many and many > 1)
+    holds += (before < most < before + many - 1, before == most - 1 and many > 1)
+    for way, met in zip(LIMITS, holds):
+        seen[f"{what} {way} the count's limit"] += met
+
+
+def note_recalled(s, count, many, kind):
+    """What remembered bytes a call took; before it they were `many`, and the state's count was `count`."""
+    earlier, taken = {place for place, _ in s.recalled[:many]}, s.recalled[many:]
+    for place, closing in taken:
+        seen[f"{'a closing byte' if closing else 'a match'} remembered, {kind}"] += 1
+        seen[f"a remembered place again, {kind}"] += place in earlier
+    seen[f"several bytes remembered, {kind}"] += len(taken) > 1
+    seen[f"remembered bytes past a count of 2^32, {kind}"] += count < 2**32 <= count + len(taken)
+    note_count(f"remembered bytes, {kind},", count, len(taken), SPARED)
 
 
 def note_left(lists, s):
@@ -471,13 +512,15 @@ def note_refusal(lists, state, kind, number, causes):
         note_within(lists, state)
         seen[f"11, {kind}"] += early
         seen[f"11 with a hit left, {kind}"] += early and state.hit > 0
+        seen[f"11 at a remembered place, {kind}"] += early and at_remembered(lists, state)
 
 
-def note_long(state, number):
+def note_long(lists, state, number):
     """What refusal 15 came before: the first of the others, or 0."""
     due = "a byte due" if state.due else "no byte due"
     seen[f"15 before {number}, {due}" if number else f"15 alone, {due}"] += 1
     seen["15 before 11 with a hit left"] += number == 11 and state.hit > 0
+    seen["15 at a remembered place"] += number == 11 and at_remembered(lists, state)
 
 
 def kind_of(what):
@@ -503,7 +546,7 @@ def refusal(lists, state, what):
     kind = kind_of(what)
     number, value, causes = step_refusal(lists, state, kind)
     if kind == "a packet" and len(what) > RUN:
-        note_long(state, number)
+        note_long(lists, state, number)
         number, value = 15, 0
     else:
         note_refusal(lists, state, kind, number, causes)
@@ -514,7 +557,7 @@ def refusal(lists, state, what):
 
 def call(lists, state, what):
     """The answer, and how many bytes it used; the state is changed in place where the call is not refused, and stays in its ranges."""
-    kind, left = kind_of(what), state.hit > 0
+    kind, left, count, many = kind_of(what), state.hit > 0, state.spared, len(state.recalled)
     number, value = refusal(lists, state, what)
     if number:
         return f"refused {number} {value}", 0
@@ -524,6 +567,7 @@ def call(lists, state, what):
         said, used = (settle(lists, state), 0) if what == CARRY else (supply(lists, state, what), 1)
     assert not range_causes(lists, state)
     note_answer(state, said.split()[0], kind, left)
+    note_recalled(state, count, many, kind)
     return said, used
 
 
@@ -558,11 +602,13 @@ def followed(lists, state, reply):
 
 
 def swept(lists, words, image, reply=None):
-    """Tables with these words, first state, and the calls of a whole sweep, whose hits are those of a search; and the places fetched."""
+    """Tables with these words, first state, and the calls of a whole sweep, whose hits are those of a search; and the places fetched, with
+    the number of bytes spared."""
     state = State(len(image), min(len(body) for _, body in words), len(lists[0]))
-    calls, answers, places = followed(lists, copy.deepcopy(state), reply or image.__getitem__)
+    last = copy.deepcopy(state)
+    calls, answers, places = followed(lists, last, reply or image.__getitem__)
     assert [said for said in answers if said.startswith("hit")] == [f"hit {end} {number}" for end, number in search(words, image)]
-    return lists, state, calls, places
+    return lists, state, calls, (places, last.spared)
 
 
 def run_at(image, place, size):
@@ -571,7 +617,8 @@ def run_at(image, place, size):
 
 
 def swept_by_packets(lists, words, image, size):
-    """The same by packets, each as long as `size` then says; the places fetched are those of the sweep by single bytes."""
+    """The same by packets, each as long as `size` then says; the places fetched, and how many bytes are spared, are those of the sweep by
+    single bytes."""
     case = swept(lists, words, image, lambda place: run_at(image, place, size()))
     assert case[3] == swept(lists, words, image)[3]
     return case
@@ -591,31 +638,35 @@ def sweep(bodies, image, size=None):
     return case
 
 
+# Books, images, and of some of them the places fetched and how many bytes are spared.
+SAMPLES = (
+    ([b"axbbx"], b"cccaxbbx", ("4 3 7 6 5 4 3", 0)),
+    ([b"b", b"baaaa"], b"aaaaaaaa", ("0 1 0 2 1 0 3 2 1 0 4 5 4 3 2 1 6 7 6 5 4 3", 8)),
+    ([b"a", b"aa"], b"aaa", ("0 1 0 2 1", 0)),
+    ([b"axbbx"], b"", ("", 0)),
+    ([b"axbbx"], b"axbb", ("", 0)),
+    ([b"aaaaa", b"aa"], b"aaaaaa", None),
+    ([b"baab", b"ab", b"a"], b"bbaabbaaa", None),
+    ([b"baba", b"babab"], b"bbababaa", None),
+    ([b"a", b"aa", b"aaa", b"aaaa"], b"aaaaaabaaa", None),
+    ([b"aaaa", b"aa", b"baaaa", b"a", b"aaa"], b"baaaaabaaaa", None),
+    ([b"x", b"bx", b"bbx", b"xbbx", b"axbbx"], b"axbbxbbxcbxaxbbx", None),
+    ([b"axbbx", b"bx", b"xbbx", b"ccaxbbx", b"b", b"xb"], b"bbxccaxbbxbbxb", None),
+    ([b"abab", b"ab", b"bab", b"b", b"ababab"], b"abababababbab", None),
+    ([b"abcd"], b"dcba", ("3 2 1 0", 0)),
+    ([b"abcd", b"edc"], b"dcbaxedcbabcdcba", None),
+    ([b"abcdefg", b"dcba", b"xabcd"], b"gfedcbabcdefgxdcbaxabcd", None),
+    ([b"zyxdcbaxy", b"abcd", b"xdcba", b"ba", b"xyzabcd"], b"zyxdcbaxyzabcdxdcbabcdcbazyx", None),
+    ([b"abcdefghij", b"hgfedcb", b"dcba"], b"jihgfedcbaabcdefghijihgfedcbabc", None),
+    ([b"aabb", b"abba", b"aab", b"bbaab"], b"bbaabbaaabbabbaabb", None),
+    ([b"abc", b"abcde", b"abcdef", b"bcdefghi"], b"cbaedcbafedcbaihgfedcbabcdefghi", None),
+)
+
+
 def samples():
-    for bodies, image, fetched in (
-        ([b"axbbx"], b"cccaxbbx", "4 3 7 6 5 4 3"),
-        ([b"b", b"baaaa"], b"aaaaaaaa", "0 1 0 2 1 0 3 2 1 0 4 5 4 3 2 1 6 7 6 5 4 3"),
-        ([b"a", b"aa"], b"aaa", "0 1 0 2 1"),
-        ([b"axbbx"], b"", ""),
-        ([b"axbbx"], b"axbb", ""),
-        ([b"aaaaa", b"aa"], b"aaaaaa", None),
-        ([b"baab", b"ab", b"a"], b"bbaabbaaa", None),
-        ([b"baba", b"babab"], b"bbababaa", None),
-        ([b"a", b"aa", b"aaa", b"aaaa"], b"aaaaaabaaa", None),
-        ([b"aaaa", b"aa", b"baaaa", b"a", b"aaa"], b"baaaaabaaaa", None),
-        ([b"x", b"bx", b"bbx", b"xbbx", b"axbbx"], b"axbbxbbxcbxaxbbx", None),
-        ([b"axbbx", b"bx", b"xbbx", b"ccaxbbx", b"b", b"xb"], b"bbxccaxbbxbbxb", None),
-        ([b"abab", b"ab", b"bab", b"b", b"ababab"], b"abababababbab", None),
-        ([b"abcd"], b"dcba", "3 2 1 0"),
-        ([b"abcd", b"edc"], b"dcbaxedcbabcdcba", None),
-        ([b"abcdefg", b"dcba", b"xabcd"], b"gfedcbabcdefgxdcbaxabcd", None),
-        ([b"zyxdcbaxy", b"abcd", b"xdcba", b"ba", b"xyzabcd"], b"zyxdcbaxyzabcdxdcbabcdcbazyx", None),
-        ([b"abcdefghij", b"hgfedcb", b"dcba"], b"jihgfedcbaabcdefghijihgfedcbabc", None),
-        ([b"aabb", b"abba", b"aab", b"bbaab"], b"bbaabbaaabbabbaabb", None),
-        ([b"abc", b"abcde", b"abcdef", b"bcdefghi"], b"cbaedcbafedcbaihgfedcbabcdefghi", None),
-    ):
-        lists, state, calls, places = sweep(bodies, image)
-        assert fetched is None or places == list(map(int, fetched.split()))
+    for bodies, image, by_hand in SAMPLES:
+        lists, state, calls, (places, spared) = sweep(bodies, image)
+        assert by_hand is None or (" ".join(map(str, places)), spared) == by_hand
         yield lists, state, calls + [CARRY, 7, b"\7"]
         yield [l + [9, 9] for l in lists], state, calls
         yield from (sweep(bodies, image, lambda: size)[:3] for size in (1, 2, 3, RUN))
@@ -668,7 +719,8 @@ def ranges():
     none, far = dict(slots=[]), 2**64 - 1
     for changes in (
         dict(), dict(count=0) | none, dict(count=23), dict(image=IMAGE), dict(image=IMAGE + 1), dict(shortest=0),
-        dict(shortest=1), dict(shortest=1024), dict(shortest=1025), dict(supplied=MOST), dict(supplied=MOST + 1),
+        dict(shortest=1), dict(shortest=1024), dict(shortest=1025), dict(supplied=MOST), dict(supplied=MOST + 1), dict(spared=SPARED),
+        dict(spared=SPARED + 1), dict(due=True, spared=SPARED), dict(due=True, spared=SPARED + 1), dict(spared=far),
         dict(node=2, depth=2), dict(node=2, depth=1), dict(node=2, depth=3), dict(node=20, depth=20), dict(node=21, depth=21),
         dict(boundary=2, node=2, depth=2) | none, dict(boundary=1, node=2, depth=2) | none, dict(boundary=0) | none,
         dict(boundary=1054) | none, dict(boundary=1055) | none, dict(boundary=31) | none, dict(boundary=30) | none,
@@ -725,7 +777,8 @@ def hits_left():
         dict(node=20, depth=20, end=0), dict(node=20, depth=20, end=20, boundary=21) | none,
         dict(due=True), dict(due=True) | none, dict(due=True, image=44) | none, dict(due=True, node=1, depth=1) | none,
         dict(due=True, boundary=53) | none, dict(due=True, hit=3), dict(due=True, end=1, hit=0) | none, dict(due=True, end=0, hit=0) | none,
-        dict(supplied=MOST), dict(supplied=MOST + 1), dict(hit=far), dict(hit=far) | none, dict(end=far), dict(end=far, hit=far),
+        dict(supplied=MOST), dict(supplied=MOST + 1), dict(spared=SPARED), dict(spared=SPARED + 1),
+        dict(hit=far), dict(hit=far) | none, dict(end=far), dict(end=far, hit=far),
         dict(end=far, hit=0), dict(end=far - 3) | none, dict(end=far - 7) | none, dict(end=far, boundary=1) | none,
         dict(end=far - 1, boundary=far) | none, dict(image=far, end=far - 1, boundary=far) | none, dict(shortest=far),
         dict(hit=2**16 + 20), dict(hit=2**32 + 20), dict(end=2**32 + 44), dict(end=2**32, hit=0), dict(due=True, end=far, hit=far),
@@ -747,6 +800,27 @@ def standing():
             yield lists, State(image, 1, count, b, d, d, slots=slots), [CARRY, 98] + LEFT
             yield lists, State(image, 3, count, b, d, d, slots=slots), [CARRY, 97] + LEFT
             yield lists, State(image, 2, count, b, d, d, slots=slots), [CARRY, b"aab", CARRY, b"aaaaaab", CARRY] + LEFT
+
+
+def remembered():
+    """Rounds that stand before remembered bytes, or before a byte that is due and remembered ones below it: one or several, as matches and
+    as the closing byte; with each kind of call, in turn and out of it, and the count from nothing to its limit."""
+    lists, _, count = built([b"a" * n for n in INNER] + [b"baaaaaaa", b"aaaab", b"cc", b"aaaac"])
+    nodes = {ending(lists, v): v for v in range(count)}
+    for b, matched, left, there, byte in (
+        (25, b"aaaaa", 0, b"a" * 20, None), (45, b"a", 40, b"aaaa", None), (45, b"aaaa", 40, b"aaaa", None),
+        (20, b"aa", 10, b"baaaaaaa", None), (19, b"aaaaaaa", 10, b"baaaaaaa", None), (19, b"aaaaaaaa", 10, b"baaaaaaa", None),
+        (19, b"", 10, b"baaaaaaa", b"a"), (20, b"", 10, b"baaaaaaa", b"a"), (20, b"a", 10, b"baaaaaaa", b"a"),
+        (45, b"", 40, b"aaaa", b"a"), (41, b"", 0, b"a" * 40, b"a"), (15, b"", 9, b"aaaab", b"a"), (15, b"", 9, b"aaaac", b"c"),
+    ):
+        stretch = (left, left + len(there), nodes[there])
+        base = dict(image=b + 30, shortest=2, count=count, boundary=b, node=nodes[matched], depth=len(matched), slots=[stretch])
+        for spared in (0, 2**32 - 1, *(SPARED - k for k in (9, 8, 7, 2, 1, 0))):
+            state, early = State(**base, due=byte is not None, spared=spared), [b"a" * (RUN + 1), b""]
+            if byte is None:
+                yield lists, state, [97, b"a", *early, CARRY] + LEFT
+            else:
+                yield from ((lists, state, [CARRY, *early, what] + LEFT) for what in (byte[0], byte, byte * 2, byte * 20))
 
 
 def packets():
@@ -883,6 +957,8 @@ def changed(rng, state):
         slot[k] = max(0, slot[k] + rng.choice([-1, 1]))
     if rng.random() < 0.1:
         state.due = not state.due
+    if rng.random() < 0.2:
+        state.spared = rng.choice([SPARED - rng.randint(0, 9), SPARED + 1, rng.randrange(SPARED)])
 
 
 def some_tables(rng):
@@ -898,6 +974,20 @@ def some_tables(rng):
     return lists, shortest, count
 
 
+def some_calls(rng, lists, state):
+    """Random calls from the state on, most of them in turn."""
+    calls, probe, idle = [], copy.deepcopy(state), 0
+    while len(calls) < 30 and idle < 3:
+        run = some_run(rng, lists, probe)
+        what = rng.choice([*b"ab", run]) if probe.due else CARRY
+        if rng.random() < 0.15:
+            what = rng.choice([CARRY, 97, 0, run])
+        calls.append(what)
+        said, _ = call(lists, probe, what)
+        idle = idle + 1 if said.startswith(("done", "refused 9", "refused 10")) else 0
+    return calls
+
+
 def arbitrary(rng):
     """Random tables, a random state, and random calls."""
     lists, shortest, count = some_tables(rng)
@@ -909,16 +999,7 @@ def arbitrary(rng):
         if rng.random() < 0.4:
             leave_hits(rng, lists, state)
     changed(rng, state)
-    calls, probe, idle = [], copy.deepcopy(state), 0
-    while len(calls) < 30 and idle < 3:
-        run = some_run(rng, lists, probe)
-        what = rng.choice([*b"ab", run]) if probe.due else CARRY
-        if rng.random() < 0.15:
-            what = rng.choice([CARRY, 97, 0, run])
-        calls.append(what)
-        said, _ = call(lists, probe, what)
-        idle = idle + 1 if said.startswith(("done", "refused 9", "refused 10")) else 0
-    return lists, state, calls
+    return lists, state, some_calls(rng, lists, state)
 
 
 def some_sweep(rng):
@@ -938,6 +1019,7 @@ def cases():
     yield from ranges()
     yield from hits_left()
     yield from standing()
+    yield from remembered()
     yield from packets()
     yield from large()
     yield from uneven()

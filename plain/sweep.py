@@ -1,7 +1,7 @@
 #!/usr/bin/env python3
-"""Runs the program `sweep` in folders of its own and compares what it prints, line by line, with a plain search, the bytes fetched with
-the reading rules, round by round, and refusals with tables.py; also where reads give few bytes at a time, and where one fails. On small
-images the search and the rounds are compared with the steps of steps.py. Fails at the first difference. Wants target/bin/sweep
+"""Runs the program `sweep` in folders of its own and compares what it prints, line by line, with a plain search, the bytes fetched and
+spared with the reading rules, round by round, and refusals with tables.py; also where reads give few bytes at a time, and where one fails.
+On small images the search and the rounds are compared with the steps of steps.py. Fails at the first difference. Wants target/bin/sweep
 (`rt check sweep`) and gcc."""
 import errno
 import os
@@ -87,13 +87,18 @@ def shift(words, shortest, matched, closing):
     return max(node, byte)
 
 
-def fetches(bodies, image):
-    """How many bytes the reading rules fetch, round by round."""
-    words = [word for _, word in tables.spelled(bodies)]
+def endings_of(words):
+    """The endings of words, and those of them that go on: that are endings of longer ones."""
     endings = {word[k:] for word in words for k in range(len(word) + 1)}
-    inner = {ending[1:] for ending in endings if ending}
+    return endings, {ending[1:] for ending in endings if ending}
+
+
+def bill(bodies, image):
+    """How many bytes the reading rules fetch, and how many they take from stretches instead, round by round."""
+    words = [word for _, word in tables.spelled(bodies)]
+    endings, inner = endings_of(words)
     shortest, longest = min(map(len, bodies)), max(map(len, bodies))
-    b, stretches, fetched, shifts = shortest, [], 0, {}
+    b, stretches, fetched, spared, shifts = shortest, [], 0, 0, {}
     while b <= len(image):
         d, most = 0, min(longest, b)
         while d < most:  # an ending of an ending is one too
@@ -102,18 +107,19 @@ def fetches(bodies, image):
         matched = image[b - d : b]
         closing = image[b - 1 - d] if d < b and matched in inner else None
         looked = b - d if closing is None else b - 1 - d
-        fetched += b - looked - sum(max(0, right - max(left, looked)) for left, right in stretches)
+        known = sum(max(0, right - max(left, looked)) for left, right in stretches)
+        fetched, spared = fetched + b - looked - known, spared + known
         left_over = [s for s in stretches if s[0] < b - d]
         new = (max([b - d] + [right for _, right in left_over]), b)
         if (matched, closing) not in shifts:
             shifts[matched, closing] = shift(words, shortest, matched, closing)
         b += shifts[matched, closing]
         stretches = [(left, right) for left, right in [*left_over, new] if 4 * (b - right) <= right - left]
-    return fetched
+    return fetched, spared
 
 
 def stepped(bodies, image):
-    """The hits, and how many bytes are fetched, by the steps of steps.py."""
+    """The hits, and how many bytes are fetched and spared, by the steps of steps.py."""
     lists, shortest, count = steps.built(bodies)
     state, hits, fetched = steps.State(len(image), shortest, count), [], 0
     while (said := steps.settle(lists, state)) != "done":
@@ -123,7 +129,7 @@ def stepped(bodies, image):
             steps.take(lists, state, image[int(values[0])])
         else:
             hits.append(tuple(map(int, values)))
-    return hits, fetched
+    return hits, fetched, state.spared
 
 
 def expected(book, image):
@@ -132,11 +138,11 @@ def expected(book, image):
         return "refused {} {}\n".format(*reading[1:])
     if len(image) > IMAGE:
         return f"refused 8 {IMAGE}\n"
-    hits, fetched = search(reading[1], image), fetches(reading[1], image)
-    if len(image) <= SMALL and (hits, fetched) != stepped(reading[1], image):
-        fail("the plain readings", book, image, "tell", (hits, fetched), "and", stepped(reading[1], image))
+    hits, (fetched, spared) = search(reading[1], image), bill(reading[1], image)
+    if len(image) <= SMALL and (hits, fetched, spared) != stepped(reading[1], image):
+        fail("the plain readings", book, image, "tell", (hits, fetched, spared), "and", stepped(reading[1], image))
     lines = [f"image {len(image)} tokens {len(reading[1])}", *(f"hit {end} {number}" for end, number in hits)]
-    return "\n".join(lines + [f"end {len(hits)} {fetched}"]) + "\n"
+    return "\n".join(lines + [f"end {len(hits)} {fetched} {spared}"]) + "\n"
 
 
 def place(path, content):

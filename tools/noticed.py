@@ -116,6 +116,9 @@ def held(root):
 
 def alone(crate, labels):
     """The same for the edits of one crate, tried in a copy that has no others."""
+    missing = set(labels) - {edit.stem for edit in ROOT.glob(f"crates/{crate}/must-fail/*.edit")}
+    if missing:
+        sys.exit(f"noticed: {crate} has no edit {', '.join(sorted(missing))}")
     with tempfile.TemporaryDirectory() as folder:
         root = pathlib.Path(folder).resolve()
         shutil.copy(ROOT / "crates.txt", root)

@@ -1,10 +1,11 @@
 -- Demand 2: the hits are exactly the occurrences, and the places fetched are those of the reading rules. For the sweep of one
--- unchanging image by single bytes and by packets, from building on, and for the sweep of the same image as a whole.
+-- unchanging image by single bytes and by packets, from building on, and for the sweep of the same image as a whole. By single bytes and as a
+-- whole, as many bytes are spared as the rules take from stretches.
 use Prim.Native.Nat.{ℕ, zero, suc, _-_, _≤_}
 use mathlib.Core.Path.{_≡_}
 use mathlib.Core.List.{List, [], _∷_, _++_}
 use lib.ListN.{length, getD, take}
-use Rattle.rules.specs.Sweep.{happens, bytesOf, places, hits, Occurrences}
+use Rattle.rules.specs.Sweep.{happens, bytesOf, places, recalls, hits, Occurrences}
 use Rattle.book.specs.Book.{readBook, accepted}
 use Rattle.tables.specs.Tables.{Tables, Sizes, build}
 use Rattle.scan.specs.declared.Scan.{Scan}
@@ -24,6 +25,17 @@ swept t image (suc calls) r =
       | found e i ↦ swept t image calls (carryOn t (r .state))
       | over ↦ []
       | refused k v ↦ []
+    ]
+
+-- The state after the first of these calls and so many more.
+abbrev pub sweptTo : Tables → List ℕ → ℕ → Stepped → Scan
+sweptTo t image zero r = r .state
+sweptTo t image (suc calls) r =
+    elim (r .answer) [
+      | fetch p ↦ sweptTo t image calls (supply t (r .state) (getD image p 0))
+      | found e i ↦ sweptTo t image calls (carryOn t (r .state))
+      | over ↦ r .state
+      | refused k v ↦ r .state
     ]
 
 -- The packet for place p: the image's bytes from there down, so many, or up to the image's start.
@@ -54,9 +66,10 @@ sent t image size (suc calls) r =
 abbrev pub Lengths : (ℕ → ℕ) → Type 0
 Lengths size = (i : ℕ) → (1 ≤ size i) × (size i ≤ maxPacket)
 
--- `said calls` is what the first calls answer, `packets size calls` what they fetch and find by packets; `whole` is what the rules say in
--- all; `sweep` is the sweep of the image as a whole, for any two hit buffers; `t` are the tables that building left.
-pub record Demand2 (book image : List ℕ) (said : ℕ → List Answer) (packets : (ℕ → ℕ) → ℕ → List Answer)
+-- `said calls` is what the first calls answer, `last calls` the state after one call more than that, `packets size calls` what they fetch and
+-- find by packets; `whole` is what the rules say in all; `sweep` is the sweep of the image as a whole, for any two hit buffers; `t` are the
+-- tables that building left.
+pub record Demand2 (book image : List ℕ) (said : ℕ → List Answer) (last : ℕ → Scan) (packets : (ℕ → ℕ) → ℕ → List Answer)
     (sweep : List ℕ → List ℕ → Swept) (t : Tables) : Type 0 where
   pub tokens : List (List ℕ)
   pub read : readBook book ≡ accepted tokens
@@ -71,10 +84,13 @@ pub record Demand2 (book image : List ℕ) (said : ℕ → List Answer) (packets
   pub fetches : placesIn whole ≡ places (happens tokens (length image) (bytesOf image))
   pub finds : hitsIn whole ≡ hits (happens tokens (length image) (bytesOf image))
   pub occurrences : Occurrences tokens image (hitsIn whole)
-  -- the whole image gives these hits and as many places: it answers their numbers, that of the hits by refusal 12 where they are too
-  -- many, builds the same tables, and writes the hits as far as both buffers reach
+  -- when all is answered, the state counts the bytes that the rules took from stretches
+  pub spares : (calls : ℕ) → length whole ≤ suc calls → last calls .spared ≡ length (recalls (happens tokens (length image) (bytesOf image)))
+  -- the whole image gives these hits, as many places, and the same count: it answers their numbers, that of the hits by refusal 12 where they
+  -- are too many, builds the same tables, and writes the hits as far as both buffers reach
   pub counts : (ends numbers : List ℕ) → sweep ends numbers .answer ≡ counted (room ends numbers) (length (hitsIn whole))
   pub counts-fetches : (ends numbers : List ℕ) → sweep ends numbers .fetched ≡ length (placesIn whole)
+  pub counts-spared : (ends numbers : List ℕ) → sweep ends numbers .spared ≡ length (recalls (happens tokens (length image) (bytesOf image)))
   pub builds : (ends numbers : List ℕ) → sweep ends numbers .tables ≡ t
   pub notes-ends : (ends numbers : List ℕ) → sweep ends numbers .ends ≡ noted (λ h. h .0) (room ends numbers) (hitsIn whole) ends
   pub notes-tokens : (ends numbers : List ℕ) → sweep ends numbers .tokens ≡ noted (λ h. h .1) (room ends numbers) (hitsIn whole) numbers
@@ -87,4 +103,5 @@ Demand2For =
     (image : List ℕ) (s : Scan) → start (length image) (sizes .shortest) (sizes .nodes) ≡ accepted s →
     let t = build book lent .tables in
     let r = carryOn t s in
-    Demand2 book image (λ calls. swept t image calls r) (λ size calls. sent t image size calls r) (sweepImage book image lent) t
+    Demand2 book image (λ calls. swept t image calls r) (λ calls. sweptTo t image calls r) (λ size calls. sent t image size calls r)
+    (sweepImage book image lent) t

@@ -1,12 +1,14 @@
 -- Demand 3: one claim about a list of calls as a whole, with any bytes and in any order: the answers are the rules', the bytes
--- fetched are within the limit, and few stretches are remembered. From building on.
-use Prim.Native.Nat.{ℕ, suc, _^_, _≤_, min}
+-- fetched are within the limit, as many are looked at as are fetched and spared together, and few stretches are remembered. From building
+-- on.
+use Prim.Native.Nat.{ℕ, zero, suc, _+_, _^_, _≤_, min}
 use mathlib.Core.Path.{_≡_}
 use mathlib.Core.Bool.{true, false}
 use mathlib.Core.List.{List, [], _∷_, _++_}
 use mathlib.Core.Option.{Option, some, none}
 use lib.ListN.{length, getD, take, drop}
-use Rattle.rules.specs.Sweep.{happens, limit, Few}
+use Rattle.rules.specs.Rules.{Event, fetched, recalled, hit, shifted, done}
+use Rattle.rules.specs.Sweep.{happens, looks, limit, Few}
 use Rattle.book.specs.Book.{readBook, accepted}
 use Rattle.tables.specs.Tables.{Tables, Sizes, build}
 use Rattle.scan.specs.declared.Scan.{Scan}
@@ -82,15 +84,39 @@ expected (some p) todo (send xs ∷ cs) =
 expected none todo (send xs ∷ cs) =
     say (elim (overlong xs) [ true ↦ refused 15 0 | false ↦ refused 11 0 ]) 0 ∷ expected none todo cs
 
+-- How many of the events to come a call passes that uses k bytes: those of its bytes, and on through the hit or done that it answers, or up
+-- to the place that it asks for, which is due and not yet looked at.
+abbrev pub passed : {E : Type 0} → ℕ → List (Event E) → ℕ
+passed k [] = 0
+passed zero (fetched p ∷ es) = 0
+passed (suc k) (fetched p ∷ es) = suc (passed k es)
+passed k (recalled p ∷ es) = suc (passed k es)
+passed k (hit e i ∷ es) = 1
+passed k (shifted b ss ∷ es) = suc (passed k es)
+passed k (done ∷ es) = 1
+
+-- The history of a list of calls: what they have passed of all that happens with the bytes taken. It is read off these events and the answers
+-- given; no state is in it. A call that is refused passes nothing.
+abbrev pub history : {E : Type 0} → List Said → List (Event E) → List (Event E)
+history [] es = []
+history (s ∷ said) es =
+    elim (isRefused (s .answer)) [
+      | true ↦ history said es
+      | false ↦ (let k = passed (s .used) es in take k es ++ history said (drop k es))
+    ]
+
 -- The rounds of a list are those the rules make when each place they fetch gets the next byte taken. `longest` is D.
 pub record Demand3 (book : List ℕ) (longest n : ℕ) (calls : List Call) (r : Ran) : Type 0 where
   pub tokens : List (List ℕ)
   pub read : readBook book ≡ accepted tokens
-  pub said : r .said ≡ expected none (answers (happens tokens n (λ k p. getD (r .taken) k 0))) calls
+  pub events : List (Event (List ℕ))
+  pub rules : events ≡ happens tokens n (λ k p. getD (r .taken) k 0)
+  pub said : r .said ≡ expected none (answers events) calls
   pub counted : r .last .supplied ≡ length (r .taken)
+  pub looked : r .last .supplied + r .last .spared ≡ length (looks (history (r .said) events))
   pub limited : length (r .taken) ≤ limit n longest
   pub fewNow : 4 ^ length (used (r .last .stretches)) ≤ longest
-  pub fewBetween : Few longest (happens tokens n (λ k p. getD (r .taken) k 0))
+  pub fewBetween : Few longest events
 
 -- Demand 3 in one piece. Building takes a book and lent tables, answers the number of nodes, S and D, and leaves tables; starting takes
 -- these numbers and a length; then any list of calls is made.

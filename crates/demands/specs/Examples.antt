@@ -1,5 +1,5 @@
 -- The sample sweeps P1 to P8 of document 01 as one table from the book's bytes on, and one result over its rows; each sweep ends with
--- done. And samples of calls from building on, one sweep and one list, and of hits by their tokens' bytes.
+-- done. And samples of calls from building on, of sweeps and of lists with their history, and of hits by their tokens' bytes.
 use Prim.Native.Nat.{ℕ}
 use native.Mathlib.Omega.{arith}
 use mathlib.Core.Path.{_≡_, refl}
@@ -7,18 +7,18 @@ use mathlib.Core.Bool.{Bool, true, false, _&&_}
 use mathlib.Core.List.{List, [], _∷_, _++_, List·Memᴰ·head}
 use mathlib.Core.Option.{some, none}
 use lib.Dec.{eqb}
-use lib.ListN.{getD, replicate}
-use Rattle.rules.specs.Rules.{trace}
-use Rattle.rules.specs.Sweep.{happens, hitsOf}
+use lib.ListN.{getD, drop, replicate}
+use Rattle.rules.specs.Rules.{Event, fetched, recalled, hit, shifted, done, trace}
+use Rattle.rules.specs.Sweep.{happens, bytesOf, looks, hitsOf}
 use Rattle.rules.specs.Examples.{Sample, a, b, x, p1, p2, p3, p4, p5, right}
 use Rattle.book.specs.Book.{Reading, readBook, accepted, refused}
 use Rattle.tables.specs.Tables.{Building, built, build}
 use Rattle.scan.specs.Start.{started}
 use Rattle.scan.specs.Calls.{fetch, found, over, refused as denied, carryOn}
 use Rattle.scan.specs.Answers.{answers}
-use Rattle.demands.specs.Demand2.{swept, packetFor, fetchedFrom, sent, Lengths}
+use Rattle.demands.specs.Demand2.{swept, sweptTo, packetFor, fetchedFrom, sent, Lengths}
 use Rattle.merge.specs.Merge.{wrote, merge}
-use Rattle.demands.specs.Demand3.{Call, carry, give, send, Said, say, ran, expected}
+use Rattle.demands.specs.Demand3.{Call, carry, give, send, Said, say, ran, expected, passed, history}
 use Rattle.demands.specs.Merge.{tokenIn, named, Has, Apart}
 
 -- What a row says of its book: it is accepted, and its tokens make a sample sweep; or it is refused.
@@ -50,7 +50,7 @@ rows =
 -- The sweep is made with the tokens that were read.
 holds : Reading → Outcome → Bool
 holds (accepted tokens) (sweeps s) =
-    right (record { tokens = tokens; image = s .image; found = s .found; fetches = s .fetches; most = s .most })
+    right (record { tokens = tokens; image = s .image; found = s .found; fetches = s .fetches; spares = s .spares; most = s .most })
 holds (accepted tokens) (refuses k v) = false
 holds (refused k v) (sweeps s) = false
 holds (refused k v) (refuses k′ v′) = eqb k k′ && eqb v v′
@@ -129,6 +129,56 @@ expected-right = refl
 uses-right : expected (some 4) (fetch 3 ∷ fetch 1 ∷ over ∷ []) (send (a ∷ []) ∷ send (a ∷ a ∷ a ∷ []) ∷ send (a ∷ a ∷ []) ∷ [])
     ≡ say (fetch 3) 1 ∷ say (fetch 1) 1 ∷ say over 1 ∷ []
 uses-right = refl
+
+-- What calls pass: with a byte or two, up to the next place to fetch, which is not passed, or through the hit; what is taken from stretches
+-- on the way is passed; and done.
+passed-right : (let es : List (Event ℕ) = fetched 4 ∷ recalled 3 ∷ fetched 2 ∷ hit 5 1 ∷ shifted 6 [] ∷ fetched 5 ∷ done ∷ [] in
+    passed 0 es ∷ passed 1 es ∷ passed 2 es ∷ passed 0 (drop 3 es) ∷ passed 0 (drop 4 es) ∷ passed 1 (drop 5 es) ∷ passed 0 (drop 7 es) ∷ [])
+    ≡ 0 ∷ 2 ∷ 4 ∷ 1 ∷ 1 ∷ 2 ∷ 0 ∷ []
+passed-right = refl
+
+-- P2's book, built: seven nodes. In its image, up to the round that takes "aaaa" from its stretch, by single bytes and by packets used in part
+-- and whole, with a call out of turn, and last an empty packet while the byte of place 5 is due: eleven bytes are taken and four spared, the
+-- last of them the closing byte; place 5 is not looked at.
+abbrev grown : Building
+grown =
+    let nines : List ℕ = replicate 7 9 in
+    build (1 ∷ b ∷ 5 ∷ b ∷ a ∷ a ∷ a ∷ a ∷ 0 ∷ []) (record { parent = nines; label = nines; token = nines; first = nines; next = nines })
+
+abbrev remembering : List Call
+remembering =
+    carry ∷ give a ∷ send (a ∷ a ∷ a ∷ []) ∷ send (replicate 5 a) ∷ send (replicate 4 a) ∷ carry ∷ give a ∷ send [] ∷ []
+
+abbrev remembered : List Said
+remembered =
+    say (fetch 0) 0 ∷ say (fetch 1) 1 ∷ say (fetch 2) 2 ∷ say (fetch 3) 3 ∷ say (fetch 4) 4 ∷ say (denied 11 0) 0 ∷ say (fetch 5) 1
+    ∷ say (fetch 5) 0 ∷ []
+
+remembering-right : ran (grown .tables) (started 8 1 7) remembering .said ≡ remembered
+unfolding built
+remembering-right = refl
+
+bill-right : ran (grown .tables) (started 8 1 7) remembering .last .supplied ∷ ran (grown .tables) (started 8 1 7) remembering .last .spared ∷ []
+    ≡ 11 ∷ 4 ∷ []
+unfolding built
+bill-right = refl
+
+looked-right : looks (history remembered (happens (p2 .tokens) 8 (bytesOf (p2 .image))))
+    ≡ 0 ∷ 1 ∷ 0 ∷ 2 ∷ 1 ∷ 0 ∷ 3 ∷ 2 ∷ 1 ∷ 0 ∷ 4 ∷ 3 ∷ 2 ∷ 1 ∷ 0 ∷ []
+unfolding happens trace
+looked-right = refl
+
+-- With hits, done twice, and calls that are refused before and between: all that is fetched is looked at, and nothing else.
+looked-hits : looks (history replies (happens ((a ∷ []) ∷ (a ∷ a ∷ []) ∷ []) 2 (λ k p. getD (a ∷ a ∷ a ∷ []) k 0))) ≡ 0 ∷ 1 ∷ 0 ∷ []
+unfolding happens trace
+looked-hits = refl
+
+-- At the end of the sweep by bytes eight are spared; when the eleventh byte is in, four; and before it, none.
+spares-right : (let r = carryOn (grown .tables) (started 8 1 7) in
+    sweptTo (grown .tables) (p2 .image) 40 r .spared ∷ sweptTo (grown .tables) (p2 .image) 11 r .spared ∷ sweptTo (grown .tables) (p2 .image) 10 r .spared ∷ [])
+    ≡ 8 ∷ 4 ∷ 0 ∷ []
+unfolding built
+spares-right = refl
 
 -- "a" and "aa", and "b" and "a", in the image "aab": by their tokens' bytes the merged book finds the hits of both.
 abbrev north : List ℕ

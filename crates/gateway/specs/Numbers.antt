@@ -10,6 +10,6 @@ builtOf (accepted s) = record { refusal = 0; value = 0; nodes = s .nodes; shorte
 builtOf (refused k v) = record { refusal = k; value = v; nodes = 0; shortest = 0; longest = 0 }
 
 -- also after 12: the number of all hits is then the value
-abbrev pub sweptOf : Verdict ℕ → ℕ → Swept
-sweptOf (accepted hits) fetched = record { refusal = 0; value = 0; hits = hits; fetched = fetched }
-sweptOf (refused k v) fetched = record { refusal = k; value = v; hits = 0; fetched = 0 }
+abbrev pub sweptOf : Verdict ℕ → ℕ → ℕ → Swept
+sweptOf (accepted hits) fetched spared = record { refusal = 0; value = 0; hits = hits; fetched = fetched; spared = spared }
+sweptOf (refused k v) fetched spared = record { refusal = k; value = v; hits = 0; fetched = 0; spared = 0 }

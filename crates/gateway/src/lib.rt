@@ -18,13 +18,14 @@ pub struct Built {
     pub longest: u64,
 }
 
-// The numbers of hits and of bytes fetched, or a refusal's number and value; 0 for what there is not.
+// The numbers of hits, of bytes fetched and of bytes spared, or a refusal's number and value; 0 for what there is not.
 #[repr(C)]
 pub struct Swept {
     pub refusal: u64,
     pub value: u64,
     pub hits: u64,
     pub fetched: u64,
+    pub spared: u64,
 }
 
 // What building answers, in numbers.
@@ -84,7 +85,7 @@ pub extern "C" fn lonnatchi_sweep(
     ensures { λ r. let made = sweepImage (now (book .entry)) (now (image .entry))
         (tables (now (parent .entry)) (now (label .entry)) (now (token .entry)) (now (first .entry)) (now (next .entry)))
         (now (ends .entry)) (now (tokens .entry)) in
-        ⌜ (r ≡ sweptOf (made .answer) (made .fetched))
+        ⌜ (r ≡ sweptOf (made .answer) (made .fetched) (made .spared))
         × (tables (now (parent .exit)) (now (label .exit)) (now (token .exit)) (now (first .exit)) (now (next .exit)) ≡ made .tables)
         × (now (ends .exit) ≡ made .ends) × (now (tokens .exit) ≡ made .tokens) ⌝ }
 {

@@ -1,4 +1,4 @@
--- Samples of what the enum's cases say, the number of hits or the refusal, and the bytes fetched; and of a round and its hits.
+-- Samples of what the enum's cases say, the number of hits or the refusal, and the bytes fetched and spared; and of a round and its hits.
 use Prim.Native.Nat.{ℕ}
 use mathlib.Core.Path.{_≡_, refl}
 use mathlib.Core.List.{List, [], _∷_}
@@ -8,12 +8,12 @@ use Rattle.book.specs.Book.{accepted, refused}
 use Rattle.book.specs.declared.Refusal.the-variants.{Repeat}
 use Rattle.image.specs.declared.Found.{Found}
 use Rattle.image.specs.declared.Swept.the-variants.{Whole, Unread, TooShort, TooLong, TooMany}
-use Rattle.image.specs.Results.{sweptOf, fetchedOf}
+use Rattle.image.specs.Results.{sweptOf, fetchedOf, sparedOf}
 use Rattle.image.specs.Rounds.{Reached, reached, met}
 use Rattle.image.specs.Walk.{treeIn, newest, notes}
 
 abbrev found : Found
-found = record { hits = 5; fetched = 40 }
+found = record { hits = 5; fetched = 40; spared = 6 }
 
 cases-told : sweptOf (Whole found) ∷ sweptOf (Unread (Repeat 3)) ∷ sweptOf (TooShort 3) ∷ sweptOf (TooLong 3) ∷ sweptOf (TooMany found) ∷ []
     ≡ accepted 5 ∷ refused 4 3 ∷ refused 7 3 ∷ refused 8 3 ∷ refused 12 5 ∷ []
@@ -21,6 +21,9 @@ cases-told = refl
 
 fetches-told : fetchedOf (Whole found) ∷ fetchedOf (TooShort 3) ∷ fetchedOf (TooMany found) ∷ [] ≡ 40 ∷ 0 ∷ 40 ∷ []
 fetches-told = refl
+
+spares-told : sparedOf (Whole found) ∷ sparedOf (TooLong 3) ∷ sparedOf (TooMany found) ∷ [] ≡ 6 ∷ 0 ∷ 6 ∷ []
+spares-told = refl
 
 -- A round before place 3, over the nodes "", "c", "bc", "abc" with these tokens.
 abbrev round : List ℕ → List ℕ → Reached ℕ

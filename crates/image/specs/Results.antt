@@ -25,6 +25,14 @@ fetchedOf (TooShort room) = 0
 fetchedOf (TooLong most) = 0
 fetchedOf (TooMany found) = found .fetched
 
+-- the number of bytes taken from stretches
+abbrev pub sparedOf : Swept → ℕ
+sparedOf (Whole found) = found .spared
+sparedOf (Unread why) = 0
+sparedOf (TooShort room) = 0
+sparedOf (TooLong most) = 0
+sparedOf (TooMany found) = found .spared
+
 -- What is refused when the image is over its limit: 1 to 6, 7, 8.
 abbrev pub refusalFor : List ℕ → Tables → Verdict ℕ
 refusalFor book t =

@@ -17,11 +17,11 @@ use Rattle.image.specs.declared.skim.Skipped.{Skipped}
 use Rattle.image.specs.declared.turn.Outcome.{Outcome}
 use Rattle.image.specs.declared.walk.Stop.{Stop}
 use Rattle.image.specs.declared.walk.Stop.the-variants.{Byte, Nothing}
-use Rattle.whole.specs.Image.{hitsOf, fetchesOf}
+use Rattle.whole.specs.Image.{hitsOf, fetchesOf, sparesOf}
 use Rattle.image.specs.Rounds.{Reached, reached, met, lowest}
 use Rattle.image.specs.Spans.{placesOf, inUse}
 use Rattle.image.specs.Rule5.{tokensOf, wordsIn, Accepted, closingOf, ByNode, ByByte, BySkip}
-use Rattle.image.specs.Laws.Round.{Starts, fetchesFrom, hitsFrom}
+use Rattle.image.specs.Laws.Round.{Starts, fetchesFrom, sparesFrom, hitsFrom}
 
 -- An accepted book, tables that represent its tokens, and an image within its limit.
 pub record Given (book image label token first next : List ℕ) (count shortest : ℕ) : Type 0 where
@@ -31,15 +31,16 @@ pub record Given (book image label token first next : List ℕ) (count shortest 
   pub nodes : count ≤ 1 + maxBodies
   pub within : length image ≤ maxImage
 
--- Where a sweep stands: the boundary, what is remembered, and how many bytes were fetched and hits found so far.
+-- Where a sweep stands: the boundary, what is remembered, and how many bytes were fetched and spared, and hits found, so far.
 pub record Standing : Type 0 where
   pub boundary : ℕ
   pub spans : Spans
   pub fetched : ℕ
+  pub spared : ℕ
   pub hits : ℕ
 
 module _ (book image : List ℕ) where
-  -- The sweep has found these hits; what is left to fetch and to find is the rest of what the rules say.
+  -- The sweep has found these hits; what is left to fetch, to spare and to find is the rest of what the rules say.
   pub record Stands (at : Standing) (found : List (ℕ × ℕ)) : Type 0 where
     pub read : readBook book ≡ accepted (tokensOf book)
     pub stretches : List (Stretch (List ℕ))
@@ -55,6 +56,9 @@ module _ (book image : List ℕ) where
     pub fetches : let ts = tokensOf book in
         at .fetched + fetchesFrom ts (shortestOf ts) (longestOf ts) (accepted-setting book ts read) image fuel count (at .boundary) stretches
         ≡ fetchesOf ts image
+    pub spares : let ts = tokensOf book in
+        at .spared + sparesFrom ts (shortestOf ts) (longestOf ts) (accepted-setting book ts read) image fuel count (at .boundary) stretches
+        ≡ sparesOf ts image
     pub counted : at .hits ≡ length found
     pub positive : 1 ≤ at .boundary
     pub near : at .boundary ≤ length image + maxBody
@@ -130,7 +134,7 @@ module _ (book image : List ℕ) where
 
 -- the standing with another boundary and more places fetched
 abbrev pub onAt : Standing → ℕ → ℕ → Standing
-onAt at b more = record { boundary = b; spans = at .spans; fetched = at .fetched + more; hits = at .hits }
+onAt at b more = record { boundary = b; spans = at .spans; fetched = at .fetched + more; spared = at .spared; hits = at .hits }
 
 module _ (image skip : List ℕ) where
   -- The cache has this shift for a round at boundary b that ends at its first byte; 0: it has none.

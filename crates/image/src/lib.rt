@@ -12,7 +12,7 @@ ghost use Rattle.book.specs.Book.{refusalIn};
 ghost use Rattle.tables.specs.Tables.{Tables, shortestTable};
 ghost use Rattle.trie.specs.Answers.{tables};
 ghost use Rattle.whole.specs.Image.{counted, sweepImage};
-ghost use Rattle.image.specs.Results.{sweptOf, fetchedOf, refusalFor};
+ghost use Rattle.image.specs.Results.{sweptOf, fetchedOf, sparedOf, refusalFor};
 use book::Book;
 use book::Numbered;
 use book::Reading;
@@ -21,10 +21,11 @@ use trie::Building;
 use trie::entries::least;
 use trie::entries::shortest;
 
-// How many hits there are, and how many bytes were fetched.
+// How many hits there are, how many bytes were fetched, and how many taken from stretches instead (document 02: spared).
 pub struct Found {
     pub hits: usize,
     pub fetched: usize,
+    pub spared: usize,
 }
 
 // What the sweep answers: all it found; the book's refusal; 7 with the length wanted; 8 with the limit; 12 with all it found.
@@ -64,7 +65,7 @@ impl Swept {
 
 // Refusals 1 to 8 where the image is over its limit: nothing is built. `entries` is the shortest table's length.
 fn refuse(book: &[u8], entries: usize) -> Swept
-    ensures { λ r. ⌜ (fetchedOf r ≡ 0) × ((t : Tables) → entries ≡ shortestTable t → sweptOf r ≡ refusalFor (now (book .entry)) t) ⌝ }
+    ensures { λ r. ⌜ (fetchedOf r ≡ 0) × (sparedOf r ≡ 0) × ((t : Tables) → entries ≡ shortestTable t → sweptOf r ≡ refusalFor (now (book .entry)) t) ⌝ }
 {
     match book::read(book) {
         Reading::Refused(why) => Swept::Unread(why),
@@ -80,7 +81,7 @@ fn refuse(book: &[u8], entries: usize) -> Swept
 
 // What was found, or refusal 12 where there is no room for all hits.
 fn answer(found: Found, room: usize) -> Swept
-    ensures { λ r. ⌜ (sweptOf r ≡ counted room (found .hits)) × (fetchedOf r ≡ found .fetched) ⌝ }
+    ensures { λ r. ⌜ (sweptOf r ≡ counted room (found .hits)) × (fetchedOf r ≡ found .fetched) × (sparedOf r ≡ found .spared) ⌝ }
 {
     if room < found.hits {
         return Swept::TooMany(found);
@@ -105,6 +106,7 @@ pub fn sweep_image(
         record {
           answer = sweptOf r;
           fetched = fetchedOf r;
+          spared = sparedOf r;
           tables = tables (now (parent .exit)) (now (label .exit)) (now (token .exit)) (now (first .exit)) (now (next .exit));
           ends = now (ends .exit);
           tokens = now (tokens .exit);

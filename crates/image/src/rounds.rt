@@ -2,7 +2,7 @@
 ghost use mathlib.Core.Path.{_≡_};
 ghost use lib.ListN.{length};
 ghost use Rattle.book.specs.Book.{maxBody};
-ghost use Rattle.whole.specs.Image.{room, hitsOf, fetchesOf, noted};
+ghost use Rattle.whole.specs.Image.{room, hitsOf, fetchesOf, sparesOf, noted};
 ghost use Rattle.image.specs.Walk.{Kids};
 ghost use Rattle.image.specs.Rule5.{tokensOf};
 ghost use Rattle.image.specs.Sweeping.{Given, Caches};
@@ -39,6 +39,7 @@ fn rounds(
     requires caches { ⌜ Caches (now book) (now image) shortest (now nodes) (now bytes) (now skip) (now pairs) ⌝ }
     ensures hits { λ r. ⌜ r .hits ≡ length (hitsOf (tokensOf (now (book .entry))) (now (image .entry))) ⌝ }
     ensures fetched { λ r. ⌜ r .fetched ≡ fetchesOf (tokensOf (now (book .entry))) (now (image .entry)) ⌝ }
+    ensures spared { λ r. ⌜ r .spared ≡ sparesOf (tokensOf (now (book .entry))) (now (image .entry)) ⌝ }
     ensures ends { λ r. ⌜ now (ends .exit) ≡ noted (λ h. h .0) (room (now (ends .entry)) (now (tokens .entry)))
         (hitsOf (tokensOf (now (book .entry))) (now (image .entry))) (now (ends .entry)) ⌝ }
     ensures tokens { λ r. ⌜ now (tokens .exit) ≡ noted (λ h. h .1) (room (now (ends .entry)) (now (tokens .entry)))
@@ -47,6 +48,7 @@ fn rounds(
     let mut b = shortest;
     let mut spans = spans::none();
     let mut fetched = 0;
+    let mut spared = 0;
     let mut hits = 0;
     while b <= image.len() {
         let a = attempt(
@@ -72,7 +74,9 @@ fn rounds(
         if forgets(spans.used, a.depth, a.by) {
             fetched += b - a.low;
         } else {
-            fetched += spans::loose(spans, a.low, b);
+            let loose = spans::loose(spans, a.low, b);
+            fetched += loose;
+            spared += b - a.low - loose;
             spans = spans::remember(spans, b - a.depth, b, b + a.by);
         }
         hits = a.hits;
@@ -80,7 +84,11 @@ fn rounds(
         b = on.boundary;
         fetched += on.looks;
     }
-    Found { hits, fetched }
+    Found {
+        hits,
+        fetched,
+        spared,
+    }
 }
 
 // The sweep over tables that were just built; its caches are empty.
@@ -99,6 +107,7 @@ pub fn sweep(
     requires given { ⌜ Given (now book) (now image) (now label) (now token) (now first) (now next) count shortest ⌝ }
     ensures hits { λ r. ⌜ r .hits ≡ length (hitsOf (tokensOf (now (book .entry))) (now (image .entry))) ⌝ }
     ensures fetched { λ r. ⌜ r .fetched ≡ fetchesOf (tokensOf (now (book .entry))) (now (image .entry)) ⌝ }
+    ensures spared { λ r. ⌜ r .spared ≡ sparesOf (tokensOf (now (book .entry))) (now (image .entry)) ⌝ }
     ensures ends { λ r. ⌜ now (ends .exit) ≡ noted (λ h. h .0) (room (now (ends .entry)) (now (tokens .entry)))
         (hitsOf (tokensOf (now (book .entry))) (now (image .entry))) (now (ends .entry)) ⌝ }
     ensures tokens { λ r. ⌜ now (tokens .exit) ≡ noted (λ h. h .1) (room (now (ends .entry)) (now (tokens .entry)))

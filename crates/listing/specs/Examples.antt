@@ -2,11 +2,12 @@
 use Prim.Native.Nat.{ℕ}
 use mathlib.Core.Path.{_≡_, refl}
 use mathlib.Core.List.{List, [], _∷_}
+use lib.ListN.{length}
 use Rattle.rules.specs.Rules.{trace}
 use Rattle.rules.specs.Sweep.{happens}
 use Rattle.book.specs.Book.{accepted, refused}
 use Rattle.listing.specs.Parts.{maxPart, partFrom, partTo, listedAt, listedFrom}
-use Rattle.listing.specs.Lines.{ascii, decimal, imageLine, hitLine, endLine, refusedLine, waiting}
+use Rattle.listing.specs.Lines.{ascii, decimal, imageLine, hitLine, endLine, refusedLine, longestLine, waiting}
 use Rattle.listing.specs.Opening.{opened, opening}
 
 -- A part begins D − 1 bytes before what is not listed yet, or at the image's start.
@@ -65,20 +66,24 @@ image-line = refl
 hit-line : hitLine 8 1 ≡ ascii "hit 8 1\n"
 hit-line = refl
 
-end-line : endLine 1 7 ≡ ascii "end 1 7\n"
+end-line : endLine 1 7 0 ≡ ascii "end 1 7 0\n"
 end-line = refl
 
-empty-line : endLine 0 100 ≡ ascii "end 0 100\n"
+empty-line : endLine 0 100 23 ≡ ascii "end 0 100 23\n"
 empty-line = refl
 
 refused-line : refusedLine 8 65536 ≡ ascii "refused 8 65536\n"
 refused-line = refl
 
--- Bytes wait on where 64 are left for a line, and are written where 63 are.
-room-left : waiting 36 100 ≡ 36
+-- The largest numbers make the longest line.
+longest-line : length (endLine 18446744073709551615 18446744073709551615 18446744073709551615) ≡ longestLine
+longest-line = refl
+
+-- Bytes wait on where 67 are left for a line, and are written where 66 are.
+room-left : waiting 33 100 ≡ 33
 room-left = refl
 
-no-room-left : waiting 37 100 ≡ 0
+no-room-left : waiting 34 100 ≡ 0
 no-room-left = refl
 
 -- The token "a": a book, and the same with its end missing.

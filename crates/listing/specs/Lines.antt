@@ -28,23 +28,23 @@ decimal n = decimalBy (suc n) n
 abbrev pub line : List ℕ → ℕ → List ℕ → ℕ → List ℕ
 line one a two b = (one ++ decimal a) ++ (two ++ decimal b) ++ ascii "\n"
 
--- The four lines: the image's length and the number of tokens; a hit's end and token; the numbers of hits and of bytes fetched; a
--- refusal's number and value.
+-- The four lines: the image's length and the number of tokens; a hit's end and token; the numbers of hits, of bytes fetched and of bytes
+-- spared; a refusal's number and value.
 abbrev pub imageLine : ℕ → ℕ → List ℕ
 imageLine n tokens = line (ascii "image ") n (ascii " tokens ") tokens
 
 abbrev pub hitLine : ℕ → ℕ → List ℕ
 hitLine at token = line (ascii "hit ") at (ascii " ") token
 
-abbrev pub endLine : ℕ → ℕ → List ℕ
-endLine hits fetched = line (ascii "end ") hits (ascii " ") fetched
+abbrev pub endLine : ℕ → ℕ → ℕ → List ℕ
+endLine hits fetched spared = (ascii "end " ++ decimal hits) ++ line (ascii " ") fetched (ascii " ") spared
 
 abbrev pub refusedLine : ℕ → ℕ → List ℕ
 refusedLine number value = line (ascii "refused ") number (ascii " ") value
 
--- No line that is printed is longer.
+-- No line that is printed is longer: the last one has 7 bytes (`end`, three spaces, the newline) and three numbers of at most 20 digits.
 abbrev pub longestLine : ℕ
-longestLine = 64
+longestLine = 67
 
 -- Of `used` bytes that wait in a buffer of n, those that still do when room is made for a line.
 abbrev pub waiting : ℕ → ℕ → ℕ

@@ -52,10 +52,10 @@ answers-told : answers
 unfolding answers
 answers-told = refl
 
--- 25 numbers, all different
+-- 26 numbers, all different
 state : List ℕ
 state =
-    30 ∷ 20 ∷ 21 ∷ 25 ∷ 2 ∷ 3 ∷ 1 ∷ 7
+    30 ∷ 20 ∷ 21 ∷ 25 ∷ 2 ∷ 3 ∷ 1 ∷ 7 ∷ 6
     ∷ 8 ∷ 9 ∷ 10 ∷ 11 ∷ 12 ∷ 13 ∷ 14 ∷ 15 ∷ 16 ∷ 17 ∷ 18 ∷ 19 ∷ 26 ∷ 27 ∷ 28 ∷ 29 ∷ 31 ∷ []
 
 there-and-back : numbersOf (stateIn state) ≡ state
@@ -83,23 +83,23 @@ stay s = record { step = record { state = s; answer = over }; used = 3 }
 rows : List Lent
 unfolding state stay
 rows =
-    stepIn stay (state ++ (5 ∷ 6 ∷ [])) ∷ stepIn stay (take 24 state) ∷ stepIn stay (set state 6 2)
-    ∷ startIn (start 8 5 6) (state ++ (5 ∷ [])) ∷ startIn (start 16777217 5 6) state ∷ startIn (start 8 5 6) (take 24 state)
+    stepIn stay (state ++ (5 ∷ 6 ∷ [])) ∷ stepIn stay (take 25 state) ∷ stepIn stay (set state 6 2)
+    ∷ startIn (start 8 5 6) (state ++ (5 ∷ [])) ∷ startIn (start 16777217 5 6) state ∷ startIn (start 8 5 6) (take 25 state)
     ∷ []
 
 left : List ℕ → ℕ → ℕ → ℕ → ℕ → Lent
 left ns kind a b used = record { state = ns; told = told kind a b 0 used }
 
 rows-left : rows
-    ≡ left (state ++ (5 ∷ 6 ∷ [])) 3 0 0 3 ∷ left (take 24 state) 4 0 0 0 ∷ left (set state 6 2) 4 0 0 0
-    ∷ left (8 ∷ 5 ∷ 6 ∷ 5 ∷ replicate 21 0 ++ (5 ∷ [])) 1 0 0 0 ∷ left (replicate 25 0) 0 8 16777216 0 ∷ left (take 24 state) 4 0 0 0
+    ≡ left (state ++ (5 ∷ 6 ∷ [])) 3 0 0 3 ∷ left (take 25 state) 4 0 0 0 ∷ left (set state 6 2) 4 0 0 0
+    ∷ left (8 ∷ 5 ∷ 6 ∷ 5 ∷ replicate 22 0 ++ (5 ∷ [])) 1 0 0 0 ∷ left (replicate 26 0) 0 8 16777216 0 ∷ left (take 25 state) 4 0 0 0
     ∷ []
 unfolding rows left state stay
 rows-left = refl
 
 -- A state over one token of twenty bytes, with a byte due: d, which is the node too, and bytes supplied.
 due : ℕ → ℕ → List ℕ
-due d supplied = 30 ∷ 20 ∷ 21 ∷ 25 ∷ d ∷ d ∷ 1 ∷ supplied ∷ replicate 17 0
+due d supplied = 30 ∷ 20 ∷ 21 ∷ 25 ∷ d ∷ d ∷ 1 ∷ supplied ∷ replicate 18 0
 
 -- The bytes used are told of a packet, none of one that is too long, and none of a byte that is supplied singly.
 sent-told : stepIn (λ s. supplyPacket chain s (replicate 3 97)) (due 0 7) ∷ stepIn (λ s. supplyPacket chain s (replicate 65 97)) (due 0 7)
@@ -107,3 +107,12 @@ sent-told : stepIn (λ s. supplyPacket chain s (replicate 3 97)) (due 0 7) ∷ s
     ≡ left (due 3 10) 1 21 0 3 ∷ left (due 0 7) 0 15 0 0 ∷ left (due 1 8) 1 23 0 0 ∷ []
 unfolding due left chain count
 sent-told = refl
+
+-- The same with places 20 to 23 remembered, and bytes taken from there.
+remembering : ℕ → ℕ → ℕ → List ℕ
+remembering d supplied spared = 30 ∷ 20 ∷ 21 ∷ 25 ∷ d ∷ d ∷ 1 ∷ supplied ∷ spared ∷ 20 ∷ 24 ∷ 4 ∷ replicate 14 0
+
+-- A byte is supplied for place 24, and those of places 23 to 20 are taken from the stretch.
+spared-told : stepIn (λ s. noneUsed (supply chain s 97)) (remembering 0 7 2) ≡ left (remembering 5 8 6) 1 19 0 0
+unfolding remembering left chain count
+spared-told = refl

@@ -1,5 +1,6 @@
--- The scan state as the first 25 numbers of a lent list: N, S, the node count, b, node, d, whether a byte is due, bytes supplied, five
--- stretches of left, right and node, and the end and the node of the next hit that is left. What follows them stays.
+-- The scan state as the first 26 numbers of a lent list: N, S, the node count, b, node, d, whether a byte is due, bytes supplied, bytes
+-- taken from stretches, five stretches of left, right and node, and the end and the node of the next hit that is left. What follows them
+-- stays.
 use Prim.Native.Nat.{ℕ, _+_}
 use mathlib.Core.Bool.{Bool, true, false, _&&_}
 use mathlib.Core.List.{List, [], _∷_, _++_}
@@ -23,11 +24,11 @@ slotNumbers (s ∷ ss) = s .left ∷ s .right ∷ s .node ∷ slotNumbers ss
 
 abbrev pub numbersOf : Scan → List ℕ
 numbersOf s =
-    s .image ∷ s .shortest ∷ s .count ∷ s .boundary ∷ s .node ∷ s .depth ∷ flag (s .due) ∷ s .supplied
+    s .image ∷ s .shortest ∷ s .count ∷ s .boundary ∷ s .node ∷ s .depth ∷ flag (s .due) ∷ s .supplied ∷ s .spared
     ∷ (slotNumbers (s .stretches) ++ (s .end ∷ s .hit ∷ []))
 
 abbrev pub size : ℕ
-size = 25
+size = 26
 
 -- A list is long enough for a state; and it begins with one, if the number that says whether a byte is due is 0 or 1.
 abbrev pub hasRoom : List ℕ → Bool
@@ -48,10 +49,11 @@ stateIn ns = record {
   node = getD ns 4 0;
   depth = getD ns 5 0;
   due = eqb (getD ns 6 0) 1;
-  stretches = slotIn ns 8 ∷ slotIn ns 11 ∷ slotIn ns 14 ∷ slotIn ns 17 ∷ slotIn ns 20 ∷ [];
+  stretches = slotIn ns 9 ∷ slotIn ns 12 ∷ slotIn ns 15 ∷ slotIn ns 18 ∷ slotIn ns 21 ∷ [];
   supplied = getD ns 7 0;
-  end = getD ns 23 0;
-  hit = getD ns 24 0;
+  spared = getD ns 8 0;
+  end = getD ns 24 0;
+  hit = getD ns 25 0;
 }
 
 abbrev pub laidOver : Scan → List ℕ → List ℕ

@@ -1,5 +1,5 @@
-// The scan state as lent numbers: N, S, the node count, b, node, d, whether a byte is due (1), bytes supplied, five stretches of left,
-// right and node, and the end and the node of the next hit that is left.
+// The scan state as lent numbers: N, S, the node count, b, node, d, whether a byte is due (1), bytes supplied, bytes taken from stretches,
+// five stretches of left, right and node, and the end and the node of the next hit that is left.
 ghost use mathlib.Core.Path.{_≡_};
 ghost use mathlib.Core.Bool.{true};
 ghost use Prim.Native.Nat.{_+_, _≤_};
@@ -12,7 +12,7 @@ use scan::Answer;
 use scan::Scan;
 use scan::Stretch;
 
-pub const NUMBERS: usize = 25;
+pub const NUMBERS: usize = 26;
 
 pub fn no_state() -> Told
     ensures { λ r. ⌜ r ≡ noState ⌝ }
@@ -53,15 +53,16 @@ pub fn state_in(numbers: &[usize]) -> Scan
         depth: numbers[5],
         due: numbers[6] == 1,
         stretches: [
-            stretch(numbers, 8),
-            stretch(numbers, 11),
-            stretch(numbers, 14),
-            stretch(numbers, 17),
-            stretch(numbers, 20),
+            stretch(numbers, 9),
+            stretch(numbers, 12),
+            stretch(numbers, 15),
+            stretch(numbers, 18),
+            stretch(numbers, 21),
         ],
         supplied: numbers[7],
-        end: numbers[23],
-        hit: numbers[24],
+        spared: numbers[8],
+        end: numbers[24],
+        hit: numbers[25],
     }
 }
 
@@ -85,23 +86,24 @@ pub fn lay(numbers: &mut [usize], s: Scan)
     numbers[5] = s.depth;
     numbers[6] = due_number(s.due);
     numbers[7] = s.supplied;
-    numbers[8] = slots[0].left;
-    numbers[9] = slots[0].right;
-    numbers[10] = slots[0].node;
-    numbers[11] = slots[1].left;
-    numbers[12] = slots[1].right;
-    numbers[13] = slots[1].node;
-    numbers[14] = slots[2].left;
-    numbers[15] = slots[2].right;
-    numbers[16] = slots[2].node;
-    numbers[17] = slots[3].left;
-    numbers[18] = slots[3].right;
-    numbers[19] = slots[3].node;
-    numbers[20] = slots[4].left;
-    numbers[21] = slots[4].right;
-    numbers[22] = slots[4].node;
-    numbers[23] = s.end;
-    numbers[24] = s.hit;
+    numbers[8] = s.spared;
+    numbers[9] = slots[0].left;
+    numbers[10] = slots[0].right;
+    numbers[11] = slots[0].node;
+    numbers[12] = slots[1].left;
+    numbers[13] = slots[1].right;
+    numbers[14] = slots[1].node;
+    numbers[15] = slots[2].left;
+    numbers[16] = slots[2].right;
+    numbers[17] = slots[2].node;
+    numbers[18] = slots[3].left;
+    numbers[19] = slots[3].right;
+    numbers[20] = slots[3].node;
+    numbers[21] = slots[4].left;
+    numbers[22] = slots[4].right;
+    numbers[23] = slots[4].node;
+    numbers[24] = s.end;
+    numbers[25] = s.hit;
 }
 
 // A step's next state is laid over the numbers it was read from.

@@ -1,6 +1,6 @@
 -- Sample sweeps by the rules over tokens, as one table: P1 to P5 of document 01, three that pin rule 4 and the byte taken from a stretch,
--- and four of card numbers. Each row says the hits, the places fetched, and the limit on them; and each sweep ends with done. Then all
--- events of one more, rule 5's test and shifts, and the words of tokens.
+-- and four of card numbers. Each row says the hits, the places fetched, those taken from stretches, and the limit on fetches; and each
+-- sweep ends with done. Then all events of one more, what looks are, rule 5's test and shifts, and the words of tokens.
 use Prim.Native.Nat.{ℕ}
 use mathlib.Core.Path.{_≡_, refl}
 use mathlib.Core.Bool.{Bool, true, false, _&&_}
@@ -12,13 +12,14 @@ use Rattle.rules.specs.Lists.{same}
 use Rattle.rules.specs.Rules.{Event, fetched, recalled, hit, shifted, done, trace}
 use Rattle.rules.specs.Words.{isCard, isWord, numberOf, allWords}
 use Rattle.rules.specs.Tokens.{bodyBytes, longestOf, mismatch, nodeShift, byteShift}
-use Rattle.rules.specs.Sweep.{happens, bytesOf, places, hits, limit}
+use Rattle.rules.specs.Sweep.{happens, bytesOf, places, recalls, looks, hits, limit}
 
 pub record Sample : Type 0 where
   pub tokens : List (List ℕ)
   pub image : List ℕ
   pub found : List (ℕ × ℕ)
   pub fetches : List ℕ
+  pub spares : List ℕ
   pub most : ℕ
 
 -- letters
@@ -40,6 +41,7 @@ p1 = record {
   image = c ∷ c ∷ c ∷ a ∷ x ∷ b ∷ b ∷ x ∷ [];
   found = (8, 1) ∷ [];
   fetches = 4 ∷ 3 ∷ 7 ∷ 6 ∷ 5 ∷ 4 ∷ 3 ∷ [];
+  spares = [];
   most = 82;
 }
 
@@ -49,6 +51,7 @@ p2 = record {
   image = replicate 8 a;
   found = [];
   fetches = 0 ∷ 1 ∷ 0 ∷ 2 ∷ 1 ∷ 0 ∷ 3 ∷ 2 ∷ 1 ∷ 0 ∷ 4 ∷ 5 ∷ 4 ∷ 3 ∷ 2 ∷ 1 ∷ 6 ∷ 7 ∷ 6 ∷ 5 ∷ 4 ∷ 3 ∷ [];
+  spares = 3 ∷ 2 ∷ 1 ∷ 0 ∷ 5 ∷ 4 ∷ 3 ∷ 2 ∷ [];
   most = 82;
 }
 
@@ -58,14 +61,15 @@ p3 = record {
   image = replicate 3 a;
   found = (1, 1) ∷ (2, 2) ∷ (2, 1) ∷ (3, 2) ∷ (3, 1) ∷ [];
   fetches = 0 ∷ 1 ∷ 0 ∷ 2 ∷ 1 ∷ [];
+  spares = [];
   most = 17;
 }
 
 abbrev pub p4 : Sample
-p4 = record { tokens = p1 .tokens; image = []; found = []; fetches = []; most = 10 }
+p4 = record { tokens = p1 .tokens; image = []; found = []; fetches = []; spares = []; most = 10 }
 
 abbrev pub p5 : Sample
-p5 = record { tokens = p1 .tokens; image = a ∷ x ∷ b ∷ b ∷ []; found = []; fetches = []; most = 46 }
+p5 = record { tokens = p1 .tokens; image = a ∷ x ∷ b ∷ b ∷ []; found = []; fetches = []; spares = []; most = 46 }
 
 -- A stretch that begins where the matched part begins is wholly inside it.
 abbrev pub inside : Sample
@@ -74,6 +78,7 @@ inside = record {
   image = replicate 6 a;
   found = (2, 2) ∷ (3, 2) ∷ (4, 2) ∷ (5, 1) ∷ (5, 2) ∷ (6, 1) ∷ (6, 2) ∷ [];
   fetches = 1 ∷ 0 ∷ 2 ∷ 1 ∷ 0 ∷ 3 ∷ 2 ∷ 1 ∷ 0 ∷ 4 ∷ 5 ∷ [];
+  spares = 3 ∷ 2 ∷ 1 ∷ 0 ∷ 4 ∷ 3 ∷ 2 ∷ 1 ∷ [];
   most = 64;
 }
 
@@ -84,6 +89,7 @@ recalledLeft = record {
   image = b ∷ b ∷ a ∷ a ∷ b ∷ b ∷ a ∷ a ∷ a ∷ [];
   found = (3, 3) ∷ (4, 3) ∷ (5, 1) ∷ (5, 2) ∷ (7, 3) ∷ (8, 3) ∷ (9, 3) ∷ [];
   fetches = 0 ∷ 1 ∷ 0 ∷ 2 ∷ 3 ∷ 4 ∷ 3 ∷ 2 ∷ 1 ∷ 5 ∷ 6 ∷ 7 ∷ 8 ∷ [];
+  spares = 4 ∷ [];
   most = 89;
 }
 
@@ -94,6 +100,7 @@ recalledRight = record {
   image = b ∷ b ∷ a ∷ b ∷ a ∷ b ∷ a ∷ a ∷ [];
   found = (5, 1) ∷ (6, 2) ∷ (6, 1) ∷ (7, 1) ∷ [];
   fetches = 3 ∷ 2 ∷ 1 ∷ 0 ∷ 4 ∷ 3 ∷ 2 ∷ 1 ∷ 5 ∷ 6 ∷ 7 ∷ 6 ∷ [];
+  spares = 4 ∷ 3 ∷ 2 ∷ 1 ∷ 5 ∷ 4 ∷ 3 ∷ [];
   most = 82;
 }
 
@@ -104,6 +111,7 @@ turned = record {
   image = a ∷ b ∷ x ∷ c ∷ b ∷ a ∷ b ∷ c ∷ x ∷ a ∷ x ∷ c ∷ b ∷ a ∷ [];
   found = (6, 1) ∷ (6, 2) ∷ (9, 2) ∷ (14, 2) ∷ [];
   fetches = 3 ∷ 4 ∷ 5 ∷ 4 ∷ 3 ∷ 2 ∷ 1 ∷ 8 ∷ 7 ∷ 6 ∷ 5 ∷ 11 ∷ 12 ∷ 13 ∷ 12 ∷ 11 ∷ 10 ∷ 9 ∷ [];
+  spares = [];
   most = 136;
 }
 
@@ -114,6 +122,7 @@ palindrome = record {
   image = a ∷ b ∷ c ∷ x ∷ c ∷ b ∷ a ∷ b ∷ c ∷ x ∷ c ∷ b ∷ a ∷ [];
   found = (7, 1) ∷ (13, 1) ∷ [];
   fetches = 6 ∷ 5 ∷ 4 ∷ 3 ∷ 2 ∷ 1 ∷ 0 ∷ 12 ∷ 11 ∷ 10 ∷ 9 ∷ 8 ∷ 7 ∷ 6 ∷ [];
+  spares = [];
   most = 131;
 }
 
@@ -124,6 +133,7 @@ ten = record {
   image = x ∷ b ∷ b ∷ b ∷ a ∷ x ∷ c ∷ b ∷ a ∷ c ∷ c ∷ b ∷ b ∷ a ∷ a ∷ [];
   found = (15, 1) ∷ [];
   fetches = 4 ∷ 3 ∷ 5 ∷ 4 ∷ 10 ∷ 11 ∷ 12 ∷ 13 ∷ 12 ∷ 14 ∷ 13 ∷ 12 ∷ 11 ∷ 10 ∷ 9 ∷ 8 ∷ 7 ∷ 6 ∷ 5 ∷ [];
+  spares = [];
   most = 155;
 }
 
@@ -134,6 +144,7 @@ four = record {
   image = c ∷ c ∷ b ∷ a ∷ x ∷ [];
   found = (5, 1) ∷ [];
   fetches = 3 ∷ 4 ∷ 3 ∷ 2 ∷ 1 ∷ [];
+  spares = [];
   most = 53;
 }
 
@@ -158,7 +169,7 @@ endsDone (done ∷ e ∷ es) = false
 abbrev pub right : Sample → Bool
 right s =
     let es = happens (s .tokens) (length (s .image)) (bytesOf (s .image)) in
-    samePairs (hits es) (s .found) && same (places es) (s .fetches) && endsDone es
+    samePairs (hits es) (s .found) && same (places es) (s .fetches) && same (recalls es) (s .spares) && endsDone es
     && eqb (limit (length (s .image)) (longestOf (s .tokens))) (s .most)
 
 allRight : List Sample → Bool
@@ -174,6 +185,10 @@ events-right : happens ((a ∷ []) ∷ (a ∷ a ∷ []) ∷ []) 2 (bytesOf (a �
     ≡ fetched 0 ∷ hit 1 1 ∷ shifted 2 [] ∷ fetched 1 ∷ fetched 0 ∷ hit 2 2 ∷ hit 2 1 ∷ shifted 3 [] ∷ done ∷ []
 unfolding happens trace
 events-right = refl
+
+-- A place counts as looked at each time, whether its byte is fetched or taken from a stretch.
+looks-right : looks {E = ℕ} (fetched 4 ∷ fetched 3 ∷ hit 5 1 ∷ shifted 6 [] ∷ fetched 5 ∷ recalled 4 ∷ recalled 3 ∷ done ∷ []) ≡ 4 ∷ 3 ∷ 5 ∷ 4 ∷ 3 ∷ []
+looks-right = refl
 
 -- The test of "axbbx": not moved, it differs from "ccbbx" at the c that stands farther right; moved by 3 it fits "cax", over two bytes of which
 -- it lies, and differs from "cxx" at the second; moved by 1 its b is over the x; moved by 5 it lies over nothing; and

@@ -1,4 +1,5 @@
--- A whole sweep by the rules over the tokens, what it fetches and finds, and what it should: the occurrences, and the limits.
+-- A whole sweep by the rules over the tokens, what it fetches, takes from stretches, looks at and finds, and what it should: the occurrences,
+-- and the limits.
 use Prim.Native.Nat.{ℕ, zero, suc, _+_, _-_, _*_, _/_, _^_, _≤_, _<_}
 use mathlib.Core.Path.{_≡_}
 use mathlib.Core.Bool.{true}
@@ -27,6 +28,24 @@ places (hit e i ∷ es) = places es
 places (shifted b ss ∷ es) = places es
 places (done ∷ es) = places es
 
+-- The places whose bytes are taken from stretches, in order (document 02: spared).
+abbrev pub recalls : {E : Type 0} → List (Event E) → List ℕ
+recalls [] = []
+recalls (fetched p ∷ es) = recalls es
+recalls (recalled p ∷ es) = p ∷ recalls es
+recalls (hit e i ∷ es) = recalls es
+recalls (shifted b ss ∷ es) = recalls es
+recalls (done ∷ es) = recalls es
+
+-- The places looked at, in order: a look is a byte fetched or taken from a stretch.
+abbrev pub looks : {E : Type 0} → List (Event E) → List ℕ
+looks [] = []
+looks (fetched p ∷ es) = p ∷ looks es
+looks (recalled p ∷ es) = p ∷ looks es
+looks (hit e i ∷ es) = looks es
+looks (shifted b ss ∷ es) = looks es
+looks (done ∷ es) = looks es
+
 -- The hits, in order: end and token.
 abbrev pub hits : {E : Type 0} → List (Event E) → List (ℕ × ℕ)
 hits [] = []
@@ -36,12 +55,15 @@ hits (hit e i ∷ es) = (e, i) ∷ hits es
 hits (shifted b ss ∷ es) = hits es
 hits (done ∷ es) = hits es
 
--- The hits of tokens in an image, and how many bytes are fetched to find them.
+-- The hits of tokens in an image, and how many bytes are fetched to find them, and taken from stretches.
 abbrev pub hitsOf : List (List ℕ) → List ℕ → List (ℕ × ℕ)
 hitsOf tokens image = hits (happens tokens (length image) (bytesOf image))
 
 abbrev pub fetchesOf : List (List ℕ) → List ℕ → ℕ
 fetchesOf tokens image = length (places (happens tokens (length image) (bytesOf image)))
+
+abbrev pub sparesOf : List (List ℕ) → List ℕ → ℕ
+sparesOf tokens image = length (recalls (happens tokens (length image) (bytesOf image)))
 
 -- An occurrence: a word of token i (from 0), its bytes or, for a card number, their reverse, stands in the image with its right edge at e
 -- (document 01: end).

@@ -3,15 +3,15 @@ use Prim.Native.Nat.{ℕ, zero, suc, _+_, _*_, min}
 use mathlib.Core.Bool.{Bool, true, false, not}
 use mathlib.Core.List.{List, [], _∷_}
 use mathlib.Core.Option.{Option, some, none}
-use lib.ListN.{getD}
+use lib.ListN.{length, getD}
 use Rattle.rules.specs.Rules.{Config, Event, Step, finished, wants, goes, takeByte, next}
-use Rattle.rules.specs.Sweep.{hits}
+use Rattle.rules.specs.Sweep.{recalls, hits}
 use Rattle.book.specs.Book.{maxBody}
 use Rattle.tables.specs.Tables.{Tables}
 use Rattle.tables.specs.Walks.{carrier}
 use Rattle.tables.specs.Broken.{broken}
 use Rattle.scan.specs.declared.Scan.{Scan}
-use Rattle.scan.specs.State.{laid, configOf, treeOf, maxSupplied, maxStretches, inRange}
+use Rattle.scan.specs.State.{laid, configOf, treeOf, maxSupplied, maxSpared, maxStretches, inRange}
 
 -- What a step answers: fetch this place, a hit (end, token), done, or a refusal's number and value; and the next state.
 pub data Answer : Type 0 where
@@ -43,6 +43,24 @@ counted s = record {
   due = false;
   stretches = s .stretches;
   supplied = min maxSupplied (s .supplied + 1);
+  spared = s .spared;
+  end = s .end;
+  hit = s .hit;
+}
+
+-- So many bytes more are taken from stretches; the count stops.
+abbrev pub sparing : Scan → ℕ → Scan
+sparing s k = record {
+  image = s .image;
+  shortest = s .shortest;
+  count = s .count;
+  boundary = s .boundary;
+  node = s .node;
+  depth = s .depth;
+  due = s .due;
+  stretches = s .stretches;
+  supplied = s .supplied;
+  spared = min maxSpared (s .spared + k);
   end = s .end;
   hit = s .hit;
 }
@@ -59,6 +77,7 @@ awaiting s = record {
   due = true;
   stretches = s .stretches;
   supplied = s .supplied;
+  spared = s .spared;
   end = s .end;
   hit = s .hit;
 }
@@ -75,6 +94,7 @@ moved s c = record {
   due = s .due;
   stretches = laid maxStretches (c .stretches);
   supplied = s .supplied;
+  spared = s .spared;
   end = s .end;
   hit = s .hit;
 }
@@ -91,6 +111,7 @@ owing s end v = record {
   due = s .due;
   stretches = s .stretches;
   supplied = s .supplied;
+  spared = s .spared;
   end = elim v [ zero ↦ 0 | suc w ↦ end ];
   hit = v;
 }
@@ -106,9 +127,9 @@ told t s = record {
 abbrev pub firstHit : Tables → ℕ → List (Event ℕ) → ℕ
 firstHit t v es = elim (hits es) [ [] ↦ 0 | h ∷ hs ↦ carrier t v ]
 
--- A step of the rules: the state stands where it leads, and its hits are left.
+-- A step of the rules: the bytes it takes from stretches are counted, the state stands where it leads, and its hits are left.
 abbrev pub stepped : Tables → Scan → Step ℕ → Scan
-stepped t s w = owing (moved s (w .config)) (s .boundary) (firstHit t (s .node) (w .events))
+stepped t s w = owing (moved (sparing s (length (recalls (w .events)))) (w .config)) (s .boundary) (firstHit t (s .node) (w .events))
 
 -- A call runs on until it can answer: a hit that is left, a place to fetch, or done.
 abbrev pub settle : Tables → ℕ → Scan → Stepped

@@ -52,6 +52,7 @@ row n s k b v d ss due supplied ranged = record {
     due = due;
     stretches = laid 5 ss;
     supplied = supplied;
+    spared = 0;
     end = 0;
     hit = 0;
   };
@@ -190,6 +191,7 @@ waits n s k b v ss due end hit = record {
   due = due;
   stretches = laid 5 ss;
   supplied = 0;
+  spared = 0;
   end = end;
   hit = hit;
 }
@@ -197,6 +199,28 @@ waits n s k b v ss due end hit = record {
 -- the first state is in its ranges over the tables, and the second is not
 edge : Tables → Scan → Scan → Bool
 edge t s u = inRange t s && not (inRange t u)
+
+-- the same state, with so many bytes taken from stretches
+unfoldable pub billed : Scan → ℕ → Scan
+billed s m = record {
+  image = s .image;
+  shortest = s .shortest;
+  count = s .count;
+  boundary = s .boundary;
+  node = s .node;
+  depth = s .depth;
+  due = s .due;
+  stretches = s .stretches;
+  supplied = s .supplied;
+  spared = m;
+  end = s .end;
+  hit = s .hit;
+}
+
+-- Bytes taken from stretches.
+spared-right : (let s = waits 9 3 4 7 0 [] false 0 0 in edge (nested 4) (billed s 20000000000) (billed s 20000000001)) ≡ true
+unfolding edge billed waits nested count
+spared-right = refl
 
 -- The hits that are left. None: the end is 0.
 left-none : edge (nested 4) (waits 9 3 4 7 0 [] false 0 0) (waits 9 3 4 7 0 [] false 1 0) ≡ true
@@ -302,6 +326,36 @@ last-differs : supply gapped (waits 9 1 5 5 2 [] true 0 0) 98
     ≡ record { state = counted (waits 9 1 5 6 0 [] false 0 0); answer = found 5 1 }
 unfolding waits gapped nested count
 last-differs = refl
+
+-- "b" and "baaaa": the nodes are "", "b", "a", "aa", "aaa", "aaaa", "baaaa".
+unfoldable pub branching : Tables
+branching = record {
+  parent = 0 ∷ 0 ∷ 0 ∷ 2 ∷ 3 ∷ 4 ∷ 5 ∷ [];
+  label = 0 ∷ 98 ∷ 97 ∷ 97 ∷ 97 ∷ 97 ∷ 98 ∷ [];
+  token = 0 ∷ 1 ∷ 0 ∷ 0 ∷ 0 ∷ 0 ∷ 2 ∷ [];
+  first = 1 ∷ 0 ∷ 3 ∷ 4 ∷ 5 ∷ 6 ∷ 0 ∷ [];
+  next = 0 ∷ 2 ∷ 0 ∷ 0 ∷ 0 ∷ 0 ∷ 0 ∷ [];
+}
+
+-- P2's round before place 5: the byte of place 4 is due, and "aaaa" left of it is remembered; m bytes were taken from stretches already.
+unfoldable pub before : ℕ → Scan
+unfolding billed row stretch
+before m = billed (row 8 1 7 5 0 0 (stretch 0 4 5 ∷ []) true 10 true .state) m
+
+-- After the round the byte of place 5 is due.
+unfoldable pub behind : ℕ → Scan
+unfolding billed row
+behind m = billed (row 8 1 7 6 0 0 [] true 11 true .state) m
+
+-- Four bytes are taken from the stretch, the last of them the closing byte; the byte that is due then is not counted.
+spared-counted : supply branching (before 0) 97 ≡ record { state = behind 4; answer = fetch 5 }
+unfolding before behind branching billed row stretch
+spared-counted = refl
+
+-- The count stops.
+spared-stops : supply branching (before 19999999998) 97 ≡ record { state = behind 20000000000; answer = fetch 5 }
+unfolding before behind branching billed row stretch
+spared-stops = refl
 
 -- The number comes first, then the value; both are 0 where there is no refusal.
 refused-told : stepRefusal (refused 9 4) ≡ (9, 4)

@@ -11,7 +11,7 @@ use Rattle.scan.specs.Calls.{Answer, fetch, found, over, refused}
 use Rattle.scan.specs.Packets.{Delivered, isBelow, feed, supplyPacket, singly}
 use Rattle.scan.specs.Answers.{descent}
 use Rattle.scan.specs.Results.{deliveredOf}
-use Rattle.scan.specs.Examples.{count, chain, stretch, row, spoilt}
+use Rattle.scan.specs.Examples.{count, chain, stretch, row, billed, spoilt}
 
 -- The place just below; not the same, nor one further down.
 below-right : isBelow 5 (fetch 4) ∷ isBelow 5 (fetch 5) ∷ isBelow 5 (fetch 3) ∷ isBelow 0 (fetch 0) ∷ isBelow 5 (found 4 4) ∷ isBelow 5 over
@@ -72,10 +72,10 @@ hit-used : supplyPacket chain (due 30 25 18 [] 7) (replicate 3 97) ≡ used 2 (i
 unfolding used due idle stretch row chain count
 hit-used = refl
 
--- Places 23 to 20 are remembered: after place 24 the next one wanted is 19.
+-- Places 23 to 20 are remembered, and counted: after place 24 the next one wanted is 19.
 stretch-used : supplyPacket chain (due 30 25 0 (stretch 20 24 4 ∷ []) 7) (replicate 3 97)
-    ≡ used 1 (due 30 25 5 (stretch 20 24 4 ∷ []) 8) (fetch 19)
-unfolding used due stretch row chain count
+    ≡ used 1 (billed (due 30 25 5 (stretch 20 24 4 ∷ []) 8) 4) (fetch 19)
+unfolding used due billed stretch row chain count
 stretch-used = refl
 
 -- Place 0 is the last.

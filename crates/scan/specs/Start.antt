@@ -18,6 +18,7 @@ started n shortest count = record {
   due = false;
   stretches = laid maxStretches [];
   supplied = 0;
+  spared = 0;
   end = 0;
   hit = 0;
 }

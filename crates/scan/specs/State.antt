@@ -42,7 +42,7 @@ laid (suc k) (m ∷ ms) = slotOf m ∷ laid k ms
 abbrev pub configOf : Scan → Config ℕ
 configOf s = record { boundary = s .boundary; node = s .node; depth = s .depth; stretches = used (s .stretches) }
 
--- the ends of the ranges: nodes, S, b in an image of n bytes, bytes supplied, stretches
+-- the ends of the ranges: nodes, S, b in an image of n bytes, bytes supplied, bytes taken from stretches, stretches
 abbrev pub maxNodes : ℕ
 maxNodes = 1 + maxBodies
 
@@ -54,6 +54,9 @@ farthest n = n + maxBody
 
 abbrev pub maxSupplied : ℕ
 maxSupplied = 1000000000
+
+abbrev pub maxSpared : ℕ
+maxSpared = 20000000000
 
 abbrev pub maxStretches : ℕ
 maxStretches = 5
@@ -85,6 +88,10 @@ boundaryOk s = leb (s .depth) (s .boundary) && leb (s .boundary) (farthest (s .i
 -- At most 1,000,000,000 bytes were supplied.
 abbrev pub suppliedOk : Scan → Bool
 suppliedOk s = leb (s .supplied) maxSupplied
+
+-- At most 20,000,000,000 bytes were taken from stretches.
+abbrev pub sparedOk : Scan → Bool
+sparedOk s = leb (s .spared) maxSpared
 
 -- A stretch lies within the image, before b, is as long as its node is deep, and is kept by rule 6 at b.
 abbrev pub stretchOk : Tables → Scan → Stretch ℕ → Bool
@@ -147,4 +154,5 @@ leftOk t s = elim (s .hit) [ zero ↦ eqb (s .end) 0 | suc v ↦ hitOk t s && en
 -- Refusal 10 does not come: the state is in its ranges.
 abbrev pub inRange : Tables → Scan → Bool
 inRange t s =
-    countOk s && imageOk s && shortestOk s && nodeOk t s && boundaryOk s && suppliedOk s && stretchesOk t s && dueOk t s && leftOk t s
+    countOk s && imageOk s && shortestOk s && nodeOk t s && boundaryOk s && suppliedOk s && sparedOk s && stretchesOk t s && dueOk t s
+    && leftOk t s

@@ -33,7 +33,8 @@ pub struct Stretch {
 }
 
 // N, S, the number of nodes, the present round's boundary, node and depth, the remembered stretches, how many bytes were supplied so
-// far, whether a byte is due, and of the hits that are still to be answered their end and the node of the next (both 0 for none).
+// far and how many taken from stretches instead (document 02: spared), whether a byte is due, and of the hits that are still to be answered
+// their end and the node of the next (both 0 for none).
 pub struct Scan {
     pub image: usize,
     pub shortest: usize,
@@ -43,6 +44,7 @@ pub struct Scan {
     pub depth: usize,
     pub stretches: [Stretch; 5],
     pub supplied: usize,
+    pub spared: usize,
     pub due: bool,
     pub end: usize,
     pub hit: usize,
@@ -156,6 +158,7 @@ fn fresh(n: usize, shortest: usize, nodes: usize) -> Scan
             node: 0,
         }; 5],
         supplied: 0,
+        spared: 0,
         end: 0,
         hit: 0,
     }

@@ -23,7 +23,7 @@ ghost use Rattle.scan.specs.Ways.{paths, marks, Rises, Climbs};
 ghost use Rattle.scan.specs.Ranges.{Passing};
 ghost use Rattle.scan.specs.Memory.{covers};
 
-// The ends of the ranges: of the node count, S, b past the end of the image, and the bytes supplied.
+// The ends of the ranges: of the node count, S, b past the end of the image, and the bytes supplied and taken from stretches.
 const NODES: usize = 1 + Book::BODIES;
 
 const SHORTEST: usize = Book::BODY;
@@ -31,6 +31,8 @@ const SHORTEST: usize = Book::BODY;
 const PAST: usize = Book::BODY;
 
 pub const SUPPLIED: usize = 1000000000;
+
+pub const SPARED: usize = 20000000000;
 
 // Whether x lies in a range, both ends included.
 fn between(low: usize, x: usize, high: usize) -> bool
@@ -204,7 +206,10 @@ pub fn in_range(parent: &[u16], token: &[u16], first: &[u16], scan: Scan) -> boo
     if !between(1, scan.shortest, SHORTEST) || !lies(parent, scan.count, scan.node, scan.depth) {
         return false;
     }
-    if !between(scan.depth, scan.boundary, scan.image + PAST) || scan.supplied > SUPPLIED {
+    if !between(scan.depth, scan.boundary, scan.image + PAST) {
+        return false;
+    }
+    if scan.supplied > SUPPLIED || scan.spared > SPARED {
         return false;
     }
     if !stretches_ok(parent, scan) || !due_ok(first, scan) {

@@ -4,10 +4,10 @@ ghost use mathlib.Core.Path.{_≡_};
 ghost use mathlib.Core.Bool.{true};
 ghost use mathlib.Core.List.{List};
 ghost use mathlib.Core.Option.{none};
-ghost use Prim.Native.Nat.{ℕ};
+ghost use Prim.Native.Nat.{ℕ, _+_, min};
 ghost use Rattle.rules.specs.Rules.{endRound, takeByte};
 ghost use Rattle.trie.specs.Answers.{tables};
-ghost use Rattle.scan.specs.State.{configOf, treeOf};
+ghost use Rattle.scan.specs.State.{configOf, treeOf, maxSpared};
 ghost use Rattle.scan.specs.Calls.{counted, stepped, settle, enough, judged, supply};
 ghost use Rattle.scan.specs.Shifts.{closingOf};
 ghost use Rattle.scan.specs.Results.{steppedOf};
@@ -17,6 +17,7 @@ use crate::Answer;
 use crate::Scan;
 use crate::Stepped;
 use crate::hits;
+use crate::ranges::SPARED;
 use crate::ranges::SUPPLIED;
 use crate::shift;
 use crate::shift::Closing;
@@ -113,6 +114,16 @@ fn choose(scan: Scan, parent: &[u16], label: &[u8], first: &[u16]) -> Move
     }
 }
 
+// The count with a byte more taken from a stretch. It stops.
+fn one_more(spared: usize) -> usize
+    ensures { λ r. ⌜ r ≡ min maxSpared (spared + 1) ⌝ }
+{
+    if spared < SPARED {
+        return spared + 1;
+    }
+    SPARED
+}
+
 // A call runs on until it can answer: each step takes a byte of the round or ends it, so it does.
 pub fn settle(
     scan: Scan,
@@ -150,6 +161,7 @@ pub fn settle(
                 at = end_round(at, parent, label, token, Closing::Nothing);
             }
             Move::Take(x) => {
+                at.spared = one_more(at.spared);
                 at = take_byte(at, parent, label, token, first, next, x);
             }
         }

@@ -16,7 +16,7 @@ image-line = refl
 hit-line : lineBytes (Hit 8 1) ≡ ascii "hit 8 1\n"
 hit-line = refl
 
-end-line : lineBytes (End 1 7) ≡ ascii "end 1 7\n"
+end-line : lineBytes (End 1 7 0) ≡ ascii "end 1 7 0\n"
 end-line = refl
 
 refused-line : lineBytes (Refused 8 65536) ≡ ascii "refused 8 65536\n"

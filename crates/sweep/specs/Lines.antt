@@ -2,8 +2,8 @@
 use Prim.Native.Nat.{ℕ, _≤_}
 use mathlib.Core.List.{List}
 use lib.ListN.{length}
-pub use Rattle.listing.specs.Lines.{ascii, decimalBy, decimal, line, longestLine, waiting}
-use Rattle.listing.specs.Lines.{imageLine, hitLine, endLine, refusedLine}
+pub use Rattle.listing.specs.Lines.{ascii, decimalBy, decimal, line, endLine, longestLine, waiting}
+use Rattle.listing.specs.Lines.{imageLine, hitLine, refusedLine}
 use Rattle.sweep.specs.declared.lines.Line.{Line}
 use Rattle.sweep.specs.declared.lines.Line.the-variants.{Image, Hit, End, Refused}
 use Rattle.sweep.specs.declared.pen.Pen.{Pen}
@@ -12,7 +12,7 @@ use Rattle.sweep.specs.declared.pen.Pen.{Pen}
 abbrev pub lineBytes : Line → List ℕ
 lineBytes (Image n tokens) = imageLine n tokens
 lineBytes (Hit at token) = hitLine at token
-lineBytes (End hits fetched) = endLine hits fetched
+lineBytes (End hits fetched spared) = endLine hits fetched spared
 lineBytes (Refused number value) = refusedLine number value
 
 -- What waits is in the buffer, which has room for a line at least.

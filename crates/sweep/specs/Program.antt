@@ -13,8 +13,8 @@ use Rattle.book.specs.Book.{Verdict, accepted, refused, Totals, readBook}
 use Rattle.book.specs.Answers.{Amounts, totalled}
 use Rattle.book.specs.declared.Totals.{Totals as Sums}
 use Rattle.image.specs.declared.Swept.{Swept}
-use Rattle.whole.specs.Image.{room, hitsOf, fetchesOf, counted, noted}
-use Rattle.image.specs.Results.{sweptOf, fetchedOf}
+use Rattle.whole.specs.Image.{room, hitsOf, fetchesOf, sparesOf, counted, noted}
+use Rattle.image.specs.Results.{sweptOf, fetchedOf, sparedOf}
 use Rattle.image.specs.Rule5.{tokensOf}
 use Rattle.listing.specs.Parts.{fromAt, toAt, listedAt}
 pub use Rattle.listing.specs.Opening.{imageLimit}
@@ -45,6 +45,7 @@ pub record Known (book : List ℕ) (totals : Sums) : Type 0 where
 pub record Answered (book image : List ℕ) (r : Swept) (ends numbers ends′ numbers′ : List ℕ) : Type 0 where
   pub answer : sweptOf r ≡ counted (room ends numbers) (length (hitsOf (tokensOf book) image))
   pub fetched : fetchedOf r ≡ fetchesOf (tokensOf book) image
+  pub spared : sparedOf r ≡ sparesOf (tokensOf book) image
   pub in-ends : ends′ ≡ noted (λ h. h .0) (room ends numbers) (hitsOf (tokensOf book) image) ends
   pub in-tokens : numbers′ ≡ noted (λ h. h .1) (room ends numbers) (hitsOf (tokensOf book) image) numbers
 

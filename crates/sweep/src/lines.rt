@@ -3,17 +3,17 @@ ghost use Prim.Native.Nat.{_+_, _≤_};
 ghost use mathlib.Core.Path.{_≡_};
 ghost use mathlib.Core.List.{_++_};
 ghost use lib.ListN.{length, take};
-ghost use Rattle.sweep.specs.Lines.{decimal, longestLine, line, lineBytes};
+ghost use Rattle.sweep.specs.Lines.{decimal, longestLine, line, endLine, lineBytes};
 
-// No line is longer: two words of at most 8 bytes, two numbers of at most 20 digits, and the newline.
-pub const LONGEST: usize = 64;
+// No line is longer (`longestLine`).
+pub const LONGEST: usize = 67;
 
-// A line and its two numbers: the image's length and the number of tokens; a hit's end and its token; how many hits there were and how
-// many bytes were fetched; a refusal's number and its value.
+// A line and its numbers: the image's length and the number of tokens; a hit's end and its token; how many hits there were and how many
+// bytes were fetched and spared; a refusal's number and its value.
 pub enum Line {
     Image(usize, usize),
     Hit(usize, usize),
-    End(usize, usize),
+    End(usize, usize, usize),
     Refused(usize, usize),
 }
 
@@ -48,14 +48,23 @@ fn pair(out: &mut [u8], at: usize, word: &[u8], n: usize) -> usize
     number(out, end, n)
 }
 
-// A line of two words, each with a number.
+// A line of two words, each with a number; the digits and the newline are 41 bytes at most.
 fn whole_line(out: &mut [u8], at: usize, one: &[u8], a: usize, two: &[u8], b: usize) -> usize
-    requires { ⌜ (length (now one) ≤ 8) × (length (now two) ≤ 8) × (at + longestLine ≤ length (now out)) ⌝ }
+    requires { ⌜ at + length (now one) + length (now two) + 41 ≤ length (now out) ⌝ }
     ensures { λ r. ⌜ (r ≤ length (now (out .exit))) × (take r (now (out .exit)) ≡ take at (now (out .entry)) ++ line (now (one .entry)) a (now (two .entry)) b) ⌝ }
 {
     let half = pair(out, at, one, a);
     let end = pair(out, half, two, b);
     append(out, end, b"\n")
+}
+
+// The last line, of three numbers: the first, with its word, stands before a line of the other two.
+fn end_line(out: &mut [u8], at: usize, hits: usize, fetched: usize, spared: usize) -> usize
+    requires { ⌜ at + longestLine ≤ length (now out) ⌝ }
+    ensures { λ r. ⌜ (r ≤ length (now (out .exit))) × (take r (now (out .exit)) ≡ take at (now (out .entry)) ++ endLine hits fetched spared) ⌝ }
+{
+    let end = pair(out, at, b"end ", hits);
+    whole_line(out, end, b" ", fetched, b" ", spared)
 }
 
 // The line behind the first `at` bytes of the buffer.
@@ -66,7 +75,7 @@ pub fn put(out: &mut [u8], at: usize, what: Line) -> usize
     match what {
         Line::Image(n, tokens) => whole_line(out, at, b"image ", n, b" tokens ", tokens),
         Line::Hit(end, token) => whole_line(out, at, b"hit ", end, b" ", token),
-        Line::End(hits, fetched) => whole_line(out, at, b"end ", hits, b" ", fetched),
+        Line::End(hits, fetched, spared) => end_line(out, at, hits, fetched, spared),
         Line::Refused(number, value) => whole_line(out, at, b"refused ", number, b" ", value),
     }
 }

@@ -44,9 +44,9 @@ pub fn hit_line(from: usize, ends: &[u32], tokens: &[u32], i: usize) -> Line
 
 // The last line of a sweep.
 pub fn last_line(found: Found) -> Line
-    ensures { λ r. ⌜ r ≡ End (found .hits) (found .fetched) ⌝ }
+    ensures { λ r. ⌜ r ≡ End (found .hits) (found .fetched) (found .spared) ⌝ }
 {
-    Line::End(found.hits, found.fetched)
+    Line::End(found.hits, found.fetched, found.spared)
 }
 
 pub fn refused_line(why: Numbered) -> Line

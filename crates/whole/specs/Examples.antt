@@ -1,7 +1,7 @@
 -- Samples of the whole call: "a" and "aa" have three hits in "aab", for which four bytes are fetched.
 use Prim.Native.Nat.{ℕ}
 use mathlib.Core.Path.{_≡_, refl}
-use mathlib.Core.List.{List, [], _∷_}
+use mathlib.Core.List.{List, [], _∷_, _++_}
 use lib.ListN.{length, replicate}
 use Rattle.rules.specs.Rules.{trace}
 use Rattle.rules.specs.Sweep.{happens}
@@ -42,7 +42,7 @@ swept ends tokens = sweepImage book image (nines 4) (eights ends) (eights tokens
 
 -- What it leaves once the tables are built.
 abbrev leaves : Verdict ℕ → List ℕ → List ℕ → Swept
-leaves answer ends tokens = record { answer = answer; fetched = 4; tables = three; ends = ends; tokens = tokens }
+leaves answer ends tokens = record { answer = answer; fetched = 4; spared = 0; tables = three; ends = ends; tokens = tokens }
 
 -- All hits are there, and what follows them stays in both buffers.
 all-found : swept 5 4 ≡ leaves (accepted 3) (1 ∷ 2 ∷ 2 ∷ 8 ∷ 8 ∷ []) (1 ∷ 2 ∷ 1 ∷ 8 ∷ [])
@@ -77,6 +77,15 @@ longest-first : (nested .answer ≡ refused 12 3) × (nested .ends ≡ 3 ∷ 3 �
 unfolding happens trace
 longest-first = (refl, refl, refl)
 
+-- "aa" and "aaaaa" in "aaaaaa": the whole call counts what it takes from stretches, also after 12.
+abbrev remembers : ℕ → Swept
+remembers n = sweepImage (5 ∷ replicate 5 97 ++ (2 ∷ 97 ∷ 97 ∷ 0 ∷ [])) (replicate 6 97) (nines 8) (eights n) (eights n)
+
+spared-counted : (remembers 7 .answer ≡ accepted 7) × (remembers 7 .fetched ≡ 11) × (remembers 7 .spared ≡ 8) × (remembers 6 .answer ≡ refused 12 7)
+    × (remembers 6 .fetched ≡ 11) × (remembers 6 .spared ≡ 8)
+unfolding happens trace
+spared-counted = (refl, refl, refl, refl, refl, refl)
+
 -- A card number stands there reversed and in book order: both hits have its number.
 abbrev turned : ℕ → Swept
 turned n = sweepImage (4 ∷ 97 ∷ 98 ∷ 99 ∷ 120 ∷ 0 ∷ []) (120 ∷ 99 ∷ 98 ∷ 97 ∷ 97 ∷ 98 ∷ 99 ∷ 120 ∷ []) (nines n) (eights 2) (eights 2)
@@ -91,7 +100,7 @@ both-short = refl
 
 -- What a refusal before building leaves: all that was lent.
 abbrev untouched : Verdict ℕ → ℕ → Swept
-untouched answer n = record { answer = answer; fetched = 0; tables = nines n; ends = eights 4; tokens = eights 2 }
+untouched answer n = record { answer = answer; fetched = 0; spared = 0; tables = nines n; ends = eights 4; tokens = eights 2 }
 
 -- 7: a table has an entry too few.
 too-short : sweepImage book image (nines 3) (eights 4) (eights 2) ≡ untouched (refused 7 4) 3

@@ -1,15 +1,17 @@
--- Sweeps with an accepted book: the hits are the occurrences, the sweep ends, its fetches are within the limit, its stretches few.
-use Prim.Native.Nat.{ℕ, _≤_}
+-- Sweeps with an accepted book: the hits are the occurrences, the sweep ends, its fetches are within the limit, its looks and stretches few.
+use Prim.Native.Nat.{ℕ, _*_, _≤_}
 use native.Mathlib.Omega.{arith}
+use native.Mathlib.Nat.{le-trans, mul-le-mul}
 use mathlib.Core.Path.{_≡_}
 use mathlib.Core.List.{List}
 use lib.ListN.{length}
 use Rattle.rules.specs.Tokens.{ofTokens, shortestOf, longestOf}
-use Rattle.rules.specs.Sweep.{limit, happens, bytesOf, places, Few}
+use Rattle.rules.specs.Sweep.{limit, happens, bytesOf, places, looks, Few}
 use Rattle.rules.specs.Laws.Limit.{stretches-few, fetches-all}
 use Rattle.rules.specs.Laws.Limit.Ends.{Whole, Finite, sweep-ends}
+use Rattle.rules.specs.Laws.Limit.Looks.{looks-all}
 use Rattle.rules.specs.Laws.Exact.{Exact, tokens-finite, happens-exact}
-use Rattle.book.specs.Book.{readBook, accepted}
+use Rattle.book.specs.Book.{readBook, accepted, maxImage}
 use Rattle.book.specs.Laws.Accepted.{accepted-setting, accepted-longest}
 
 module _ (book : List ℕ) (tokens : List (List ℕ)) (read : readBook book ≡ accepted tokens) where
@@ -32,6 +34,13 @@ module _ (book : List ℕ) (tokens : List (List ℕ)) (read : readBook book ≡ 
   book-limit n ask =
       fetches-all _ length (longestOf tokens) (shortestOf tokens) finite (accepted-longest book tokens read .0)
       (accepted-setting book tokens read .positive) n ask _
+
+  -- looks at N × D bytes at most, and so at 2^34 in an image within its limit,
+  pub book-looks : (n : ℕ) (ask : ℕ → ℕ → ℕ) → n ≤ maxImage → length (looks (happens tokens n ask)) ≤ 16777216 * 1024
+  unfolding happens
+  book-looks n ask h =
+      le-trans (looks-all _ length (longestOf tokens) finite n ask (shortestOf tokens) (accepted-setting book tokens read .positive) _)
+      (mul-le-mul {n₁ = n} {m₁ = longestOf tokens} {n₂ = 16777216} {m₂ = 1024} h (accepted-longest book tokens read .1))
 
   -- and each round leaves few stretches.
   pub book-few : (n : ℕ) (ask : ℕ → ℕ → ℕ) → Few (longestOf tokens) (happens tokens n ask)

@@ -8,18 +8,21 @@ use lib.ListN.{length, getD}
 use Rattle.rules.specs.Words.{allWords}
 use Rattle.rules.specs.Rules.{fresh, trace}
 use Rattle.rules.specs.Tokens.{shortestOf, longestOf}
+use Rattle.rules.specs.Sweep.{happens}
 use Rattle.rules.specs.Laws.Limit.Ends.{steps-enough}
+use Rattle.rules.specs.Laws.Limit.Looks.{looks-split}
 use Rattle.book.specs.Book.{readBook, accepted, maxImage}
-use Rattle.book.specs.Laws.Sweep.{book-few}
+use Rattle.book.specs.Laws.Sweep.{book-ends, book-few}
 use Rattle.tables.specs.Tables.{Tables, nodes, built, Lent, written}
 use Rattle.tables.specs.Walks.{ofTables}
 use Rattle.tables.specs.Laws.Made.{written-lent, build-made}
 use Rattle.scan.specs.declared.Scan.{Scan}
 use Rattle.scan.specs.Start.{started, start}
-use Rattle.scan.specs.Answers.{answers}
+use Rattle.scan.specs.Laws.Bill.{plan}
 use Rattle.scan.specs.Laws.Walk.{fresh-sat, fresh-left}
-use Rattle.demands.specs.Demand3.{Call, ran, expected, Demand3, Demand3For}
-use Rattle.demands.specs.Laws.Ready.{start-fresh, given, same-answers}
+use Rattle.demands.specs.Demand3.{Call, ran, expected, history, Demand3, Demand3For}
+use Rattle.demands.specs.Laws.Ready.{start-fresh, given, same-plan, uncapped}
+use Rattle.demands.specs.Laws.History.{whole-closes, history-few}
 use Rattle.demands.specs.Laws.Lists.{calls-right}
 
 module _ (book : List ℕ) (tokens : List (List ℕ)) (read : readBook book ≡ accepted tokens) (t : Tables) (lent : Lent t (built tokens)) where
@@ -33,18 +36,27 @@ module _ (book : List ℕ) (tokens : List (List ℕ)) (read : readBook book ≡ 
       let all = ran t (started n S count) calls .taken in
       let fuel = suc n * (D + 2) in
       let c = fresh (ofTables t count S) S in
-      let i = calls-right g all calls c none 0 0 0
-      (answers (trace (ofTables t count S) n (λ k p. getD all k 0) fuel 0 c))
+      let ask : ℕ → ℕ → ℕ = λ k p. getD all k 0 in
+      let es = happens tokens n ask in
+      let same = same-plan book tokens read t lent n h ask in
+      let i = calls-right g all calls c none 0 0 0 0 (plan 0 (trace (ofTables t count S) n ask fuel 0 c)) es
       (fresh-sat g) (fresh-left g)
-      (fuel, λ _. steps-enough n D S fuel (g .setting .positive) (omega arith), refl) tt refl in
+      (fuel, λ _. steps-enough n D S fuel (g .setting .positive) (omega arith), refl) tt (sym same) (whole-closes es (book-ends book tokens read n ask))
+      refl in
       record {
         tokens = tokens;
         read = read;
-        said = i .said ∙ ap (λ l. expected none l calls) (sym (same-answers book tokens read t lent n h (λ k p. getD all k 0)));
+        events = es;
+        rules = refl;
+        said = i .said ∙ ap (λ q. expected none (q .0) calls) (sym same);
         counted = i .counted ∙ omega arith;
+        looked =
+            let past = history (ran t (started n S count) calls .said) es in
+            let bill = i .bill ∙ uncapped book tokens read n h ask _ (omega (arith, history-few (ran t (started n S count) calls .said) es)) in
+            omega (arith, bill, i .counted, i .fetches, looks-split past);
         limited = omega (arith, i .limited);
         fewNow = i .few;
-        fewBetween = book-few book tokens read n (λ k p. getD all k 0);
+        fewBetween = book-few book tokens read n ask;
       }
 
   -- Demand 3 over any tables that begin with the built ones, be they long enough to build into or not.

@@ -13,6 +13,7 @@ use Rattle.rules.specs.Laws.Tests.{decide}
 use Rattle.book.specs.Book.{readBook, accepted, refused, maxImage, tooLong}
 use Rattle.book.specs.Laws.Sweep.{book-exact}
 use Rattle.tables.specs.Tables.{Tables, Sizes, sizesOf, tooShort, build}
+use Rattle.scan.specs.declared.Scan.{Scan}
 use Rattle.scan.specs.Start.{started, start}
 use Rattle.scan.specs.Calls.{Answer, fetch, found, over, refused as denied}
 use Rattle.scan.specs.Answers.{answers, hitsIn}
@@ -60,8 +61,8 @@ noted-all : (part : ℕ × ℕ → ℕ) (n : ℕ) (hits : List (ℕ × ℕ)) (bu
     → take (length hits) (noted part n hits buffer) ≡ map part hits
 noted-all part n hits buffer h = rw (take-all n hits h) (take-at (map part hits) _ (length hits) (length-map hits part))
 
-module _ {book image : List ℕ} {said : ℕ → List Answer} {packets : (ℕ → ℕ) → ℕ → List Answer} {sweep : List ℕ → List ℕ → Swept} {t : Tables}
-    (d : Demand2 book image said packets sweep t) where
+module _ {book image : List ℕ} {said : ℕ → List Answer} {last : ℕ → Scan} {packets : (ℕ → ℕ) → ℕ → List Answer} {sweep : List ℕ → List ℕ → Swept} {t : Tables}
+    (d : Demand2 book image said last packets sweep t) where
   last-done : (calls : ℕ) (before : List Answer) → said calls ≡ before ++ (over ∷ []) → hitsIn before ≡ hitsIn (d .whole)
   last-done calls before e =
       let es = happens (d .tokens) (length image) (bytesOf image) in
@@ -90,7 +91,7 @@ module _ (book : List ℕ) (tokens : List (List ℕ)) (read : readBook book ≡ 
   abbrev Takes : Swept → Type 0
   Takes s = (n : ℕ) → s .answer ≡ accepted n → (build book lent .answer ≡ accepted (sizesOf tokens)) × (length image ≤ maxImage)
 
-  refuses : (k v : ℕ) (ends numbers : List ℕ) → Takes (record { answer = refused k v; fetched = 0; tables = lent; ends = ends; tokens = numbers })
+  refuses : (k v : ℕ) (ends numbers : List ℕ) → Takes (record { answer = refused k v; fetched = 0; spared = 0; tables = lent; ends = ends; tokens = numbers })
   refuses k v ends numbers n e = absurd (let z : _≡_ {A = ℕ} 0 1 = cc in omega arith)
 
   takes : (ends numbers : List ℕ) → Takes (sweepImage book image lent ends numbers)
@@ -131,8 +132,8 @@ sweep-finds book tokens read image hits (byBytes lent b) = by-bytes book tokens 
 sweep-finds book tokens read image hits (asWhole lent w) = as-whole book tokens read image lent hits w
 
 -- Buffers with an entry for each hit are enough.
-whole-ends : (book image : List ℕ) (lent : Tables) {said : ℕ → List Answer} {packets : (ℕ → ℕ) → ℕ → List Answer} {t : Tables}
-    → (d : Demand2 book image said packets (sweepImage book image lent) t) → AsWhole book image lent (hitsIn (d .whole))
+whole-ends : (book image : List ℕ) (lent : Tables) {said : ℕ → List Answer} {last : ℕ → Scan} {packets : (ℕ → ℕ) → ℕ → List Answer} {t : Tables}
+    → (d : Demand2 book image said last packets (sweepImage book image lent) t) → AsWhole book image lent (hitsIn (d .whole))
 whole-ends book image lent d =
     let n = length (hitsIn (d .whole)) in
     let buffer : List ℕ = replicate n 0 in

@@ -14,11 +14,12 @@ use Rattle.tables.specs.Tables.{Tables}
 use Rattle.scan.specs.Calls.{Answer, fetch, found, over, refused, Stepped}
 use Rattle.scan.specs.Packets.{isBelow, feed, maxPacket, supplyPacket}
 use Rattle.scan.specs.Answers.{answers, first, descent, placesIn, hitsIn}
+use Rattle.scan.specs.Laws.Bill.{Plan, skipped, capped}
 use Rattle.scan.specs.Laws.Walk.{Given}
 use Rattle.scan.specs.Laws.Settle.{Settled}
 use Rattle.scan.specs.Laws.Turns.{fetch-settles, hit-settles}
 use Rattle.scan.specs.Laws.Feeds.{descends, stays-up, Asked, Fed, feed-settles, packet-feeds}
-use Rattle.demands.specs.Demand2.{swept, packetFor, fetchedFrom, sent, Lengths}
+use Rattle.demands.specs.Demand2.{swept, sweptTo, packetFor, fetchedFrom, sent, Lengths}
 
 -- Answers to a whole sweep: places and hits, then done.
 abbrev pub Ends : List Answer → Type 0
@@ -65,22 +66,44 @@ module _ {tokens : List (List ℕ)} {S D : ℕ} {t : Tables} {count n : ℕ} (gi
   abbrev ask : ℕ → ℕ → ℕ
   ask = bytesOf image
 
-  answer : {k : ℕ} {todo : List Answer} {r : Stepped} → Settled given ask k todo r → r .answer ≡ first todo
+  answer : {k : ℕ} {todo : Plan} {r : Stepped} → Settled given ask k todo r → r .answer ≡ first (todo .0)
   answer z = ap (λ r. r .answer) (z .is)
 
   abbrev Goes : ℕ → Type 0
-  Goes calls = (k : ℕ) (todo : List Answer) → Ends todo → (r : Stepped) → Settled given ask k todo r
+  Goes calls = (k : ℕ) (todo : List Answer) (bill : ℕ → ℕ) → Ends todo → (r : Stepped) → Settled given ask k (todo, bill) r
       → swept t image calls r ≡ take calls todo
 
   pub swept-right : (calls : ℕ) → Goes calls
-  swept-right zero k todo h r z = refl
-  swept-right (suc calls) k [] h r z = absurd h
-  swept-right (suc calls) k (fetch p ∷ todo) h r z =
-      rw (answer z) (ap (λ l. fetch p ∷ l) (swept-right calls (k + 1) todo h _ (fetch-settles given ask k p todo r z)))
-  swept-right (suc calls) k (found e i ∷ todo) h r z =
-      rw (answer z) (ap (λ l. found e i ∷ l) (swept-right calls k todo h _ (hit-settles given ask k e i todo r z)))
-  swept-right (suc calls) k (over ∷ todo) h r z = rw (answer z) (ap (λ l. over ∷ l) (sym (ap (take calls) h ∙ take-nil calls)))
-  swept-right (suc calls) k (refused x v ∷ todo) h r z = absurd h
+  swept-right zero k todo bill h r z = refl
+  swept-right (suc calls) k [] bill h r z = absurd h
+  swept-right (suc calls) k (fetch p ∷ todo) bill h r z =
+      rw (answer z) (ap (λ l. fetch p ∷ l) (swept-right calls (k + 1) todo (λ i. bill (suc i)) h _ (fetch-settles given ask k p todo bill r z)))
+  swept-right (suc calls) k (found e i ∷ todo) bill h r z =
+      rw (answer z) (ap (λ l. found e i ∷ l) (swept-right calls k todo (λ i. bill (suc i)) h _ (hit-settles given ask k e i todo bill r z)))
+  swept-right (suc calls) k (over ∷ todo) bill h r z = rw (answer z) (ap (λ l. over ∷ l) (sym (ap (take calls) h ∙ take-nil calls)))
+  swept-right (suc calls) k (refused x v ∷ todo) bill h r z = absurd h
+
+  -- The last state has the whole bill, if that is the same from the last answer on.
+  abbrev Bills : ℕ → Type 0
+  Bills calls = (k : ℕ) (todo : List Answer) (bill : ℕ → ℕ) → Ends todo → length todo ≤ suc calls → (all : ℕ)
+      → ((i : ℕ) → length todo ≤ suc i → bill i ≡ all) → (r : Stepped) → Settled given ask k (todo, bill) r
+      → sweptTo t image calls r .spared ≡ capped all
+
+  now-billed : {k : ℕ} {todo : Plan} {r : Stepped} → Settled given ask k todo r → r .state .spared ≡ capped (todo .1 0)
+  now-billed z = ap (λ r. r .state .spared) (z .is)
+
+  pub bills-right : (calls : ℕ) → Bills calls
+  bills-right zero k todo bill h few all f r z = now-billed z ∙ ap capped (f 0 few)
+  bills-right (suc calls) k [] bill h few all f r z = absurd h
+  bills-right (suc calls) k (fetch p ∷ todo) bill h few all f r z =
+      rw (answer z) (bills-right calls (k + 1) todo (λ i. bill (suc i)) h (omega arith) all (λ i l. f (suc i) (omega arith)) _
+      (fetch-settles given ask k p todo bill r z))
+  bills-right (suc calls) k (found e i ∷ todo) bill h few all f r z =
+      rw (answer z) (bills-right calls k todo (λ i. bill (suc i)) h (omega arith) all (λ i l. f (suc i) (omega arith)) _
+      (hit-settles given ask k e i todo bill r z))
+  bills-right (suc calls) k (over ∷ todo) bill h few all f r z =
+      rw (answer z) (now-billed z ∙ ap capped (f 0 (rw h (omega arith))))
+  bills-right (suc calls) k (refused x v ∷ todo) bill h few all f r z = absurd h
 
   -- A packet has the image's bytes, as many as it should, and one at least.
   at : (last p : ℕ) → last ≡ suc p → getD image p 0 ≡ getD image (last - 1) 0
@@ -118,19 +141,19 @@ module _ {tokens : List (List ℕ)} {S D : ℕ} {t : Tables} {count n : ℕ} (gi
   ends-later (suc used) p rest h = ends-later used (p - 1) rest h
 
   abbrev Sends : ℕ → Type 0
-  Sends calls = (size : ℕ → ℕ) → Lengths size → (k : ℕ) (todo : List Answer) → Ends todo → length todo ≤ calls → (r : Stepped)
-      → Settled given ask k todo r → sent t image size calls r ≡ todo
+  Sends calls = (size : ℕ → ℕ) → Lengths size → (k : ℕ) (todo : List Answer) (bill : ℕ → ℕ) → Ends todo → length todo ≤ calls → (r : Stepped)
+      → Settled given ask k (todo, bill) r → sent t image size calls r ≡ todo
 
-  packet-sent : (calls : ℕ) → Sends calls → (size : ℕ → ℕ) → Lengths size → (k p : ℕ) (todo : List Answer) → Ends todo → length todo ≤ calls
-      → (r : Stepped) → Settled given ask k (fetch p ∷ todo) r
+  packet-sent : (calls : ℕ) → Sends calls → (size : ℕ → ℕ) → Lengths size → (k p : ℕ) (todo : List Answer) (bill : ℕ → ℕ) → Ends todo
+      → length todo ≤ calls → (r : Stepped) → Settled given ask k (fetch p ∷ todo, bill) r
       → (let d = supplyPacket t (r .state) (packetFor image p (size 0)) in
       fetchedFrom p (d .used) ++ sent t image (λ i. size (suc i)) calls (d .step)) ≡ fetch p ∷ todo
-  packet-sent calls ih size sizes k p todo h few r z =
+  packet-sent calls ih size sizes k p todo bill h few r z =
       let xs = packetFor image p (size 0) in
       let long = packet-length (size 0) p in
       let d = feed t (suc p) r xs in
-      let f : Fed given ask k (suc p) (fetch p ∷ todo) xs d =
-      feed-settles given ask xs (suc p) k (fetch p ∷ todo) r z (packet-asked (size 0) p (suc p) k (d .used) refl) in
+      let f : Fed given ask k (suc p) (fetch p ∷ todo, bill) xs d =
+      feed-settles given ask xs (suc p) k (fetch p ∷ todo, bill) r z (packet-asked (size 0) p (suc p) k (d .used) refl) in
       let b = descends (suc p) (fetch p ∷ todo) (eq-eqb (suc p) (suc p) refl) in
       let same : suc p - 1 ≡ p = omega arith in
       let down : fetch p ∷ todo ≡ fetchedFrom p (d .used) ++ drop (d .used) (fetch p ∷ todo) =
@@ -138,19 +161,19 @@ module _ {tokens : List (List ℕ)} {S D : ℕ} {t : Tables} {count n : ℕ} (gi
       ∙ ap (λ p′. fetchedFrom p′ (d .used) ++ drop (d .used) (fetch p ∷ todo)) same in
       let some : 1 ≤ d .used = omega (arith, f .used, b .more, long .1 (sizes 0 .0)) in
       let rest = ih (λ i. size (suc i)) (λ i. sizes (suc i)) (k + d .used) (drop (d .used) (fetch p ∷ todo))
-      (ends-later (d .used) p _ (subst Ends down h)) (rw (length-drop (d .used) (fetch p ∷ todo)) (omega arith)) (d .step) (f .step) in
+      (skipped (d .used) bill) (ends-later (d .used) p _ (subst Ends down h)) (rw (length-drop (d .used) (fetch p ∷ todo)) (omega arith)) (d .step) (f .step) in
       ap (λ d. fetchedFrom p (d .used) ++ sent t image (λ i. size (suc i)) calls (d .step))
-      (packet-feeds given ask k p todo r z xs (le-ltb maxPacket (length xs) (omega (arith, long .0, sizes 0 .1))))
+      (packet-feeds given ask k p todo bill r z xs (le-ltb maxPacket (length xs) (omega (arith, long .0, sizes 0 .1))))
       ∙ ap (λ l. fetchedFrom p (d .used) ++ l) rest ∙ sym down
 
   pub sent-right : (calls : ℕ) → Sends calls
-  sent-right zero size sizes k [] h few r z = absurd h
-  sent-right zero size sizes k (a ∷ todo) h few r z = absurd (omega arith)
-  sent-right (suc calls) size sizes k [] h few r z = absurd h
-  sent-right (suc calls) size sizes k (fetch p ∷ todo) h few r z =
-      rw (answer z) (packet-sent calls (sent-right calls) size sizes k p todo h (omega arith) r z)
-  sent-right (suc calls) size sizes k (found e i ∷ todo) h few r z =
+  sent-right zero size sizes k [] bill h few r z = absurd h
+  sent-right zero size sizes k (a ∷ todo) bill h few r z = absurd (omega arith)
+  sent-right (suc calls) size sizes k [] bill h few r z = absurd h
+  sent-right (suc calls) size sizes k (fetch p ∷ todo) bill h few r z =
+      rw (answer z) (packet-sent calls (sent-right calls) size sizes k p todo bill h (omega arith) r z)
+  sent-right (suc calls) size sizes k (found e i ∷ todo) bill h few r z =
       rw (answer z) (ap (λ l. found e i ∷ l)
-      (sent-right calls (λ i. size (suc i)) (λ i. sizes (suc i)) k todo h (omega arith) _ (hit-settles given ask k e i todo r z)))
-  sent-right (suc calls) size sizes k (over ∷ todo) h few r z = rw (answer z, h) refl
-  sent-right (suc calls) size sizes k (refused x v ∷ todo) h few r z = absurd h
+      (sent-right calls (λ i. size (suc i)) (λ i. sizes (suc i)) k todo (λ i. bill (suc i)) h (omega arith) _ (hit-settles given ask k e i todo bill r z)))
+  sent-right (suc calls) size sizes k (over ∷ todo) bill h few r z = rw (answer z, h) refl
+  sent-right (suc calls) size sizes k (refused x v ∷ todo) bill h few r z = absurd h

@@ -8,7 +8,7 @@ use Rattle.gateway.proofs.lonnatchi_sweep.Tie as tie
 returns : tie.Need-returns
 returns c =
     let e = c .before .before .before .before .before .before .before .before .before .before .before .before .before .before .before .sweep-image .ensures in
-    (c .numbers .ensures ∙ ap (λ s. sweptOf (s .answer) (s .fetched)) e, ap (λ s. s .tables) e, ap (λ s. s .ends) e, ap (λ s. s .tokens) e)
+    (c .numbers .ensures ∙ ap (λ s. sweptOf (s .answer) (s .fetched) (s .spared)) e, ap (λ s. s .tables) e, ap (λ s. s .ends) e, ap (λ s. s .tokens) e)
 
 pub lonnatchi-sweep-spec : {M : Type 1} → statement M
 lonnatchi-sweep-spec =

@@ -6,13 +6,13 @@ use mathlib.Core.List.{List, [], _∷_, _++_, map, map-append}
 use lib.ListN.{length, take, length-map}
 use Rattle.book.specs.Book.{maxImage, maxBody}
 use Rattle.rules.specs.Lists.{over}
-use Rattle.whole.specs.Image.{room, hitsOf, fetchesOf, noted}
+use Rattle.whole.specs.Image.{room, hitsOf, fetchesOf, sparesOf, noted}
 use Rattle.image.specs.Spans.{inUse}
 use Rattle.image.specs.Rule5.{tokensOf}
 use Rattle.image.specs.Walk.{notes}
 use Rattle.image.specs.Sweeping.{Given, Standing, Stands, Known, Caches, Begun, Skimmable, onAt, Leads}
 use Rattle.image.specs.Laws.Notes.{notes-length, notes-append, notes-over}
-use Rattle.image.specs.Laws.RoundByRound.{begins, all-found, all-fetched, fetched-small}
+use Rattle.image.specs.Laws.RoundByRound.{begins, all-found, all-counted, looks-small}
 use Rattle.image.proofs.Laws.TurnAttempt.{Goes}
 
 -- A part of the hits found lies in a buffer.
@@ -46,11 +46,11 @@ pub record Rounding (book image : List ℕ) (shortest : ℕ) (ends₀ tokens₀ 
 
 pub rounding-begins : {book image label token first next : List ℕ} {count shortest : ℕ} {nodes bytes skip pairs : List ℕ} {at : Standing} (ends tokens : List ℕ)
     → Given book image label token first next count shortest → Caches book image shortest nodes bytes skip pairs
-    → at .boundary ≡ shortest → (inUse (at .spans) ≡ []) × (at .spans .used ≡ 0) → (at .fetched ≡ 0) × (at .hits ≡ 0)
+    → at .boundary ≡ shortest → (inUse (at .spans) ≡ []) × (at .spans .used ≡ 0) → (at .fetched ≡ 0) × (at .spared ≡ 0) × (at .hits ≡ 0)
     → Rounding book image shortest ends tokens ends tokens nodes bytes skip pairs at
 rounding-begins {book} {image} {at = at} ends tokens g c e u z = record {
   found = [];
-  stands = begins book image at (g .read .read) (e ∙ g .read .short) (u .0) (u .1) (z .0) (z .1);
+  stands = begins book image at (g .read .read) (e ∙ g .read .short) (u .0) (u .1) (z .0) (z .1) (z .2);
   caches = c;
   ends-hold = refl;
   tokens-hold = refl;
@@ -67,8 +67,8 @@ module _ {book image : List ℕ} {shortest : ℕ} {ends₀ tokens₀ ends tokens
   pub known : Known book image at
   known = record { found = l .found; stands = l .stands }
 
-  pub rounding-small : length image ≤ maxImage → (at .boundary ≤ maxImage + maxBody) × (at .fetched ≤ 2 ^ 36)
-  rounding-small w = (omega (arith, l .stands .near), fetched-small book image at (l .found) (l .stands) w)
+  pub rounding-small : length image ≤ maxImage → (at .boundary ≤ maxImage + maxBody) × (at .fetched + at .spared ≤ 2 ^ 36)
+  rounding-small w = (omega (arith, l .stands .near), looks-small book image at (l .found) (l .stands) w)
 
   -- Rounds can be skimmed, and that finds nothing; a round can begin.
   pub rounding-skimmable : {label token first next : List ℕ} {count : ℕ} → Given book image label token first next count shortest
@@ -118,19 +118,24 @@ module _ {book image : List ℕ} {shortest : ℕ} {ends₀ tokens₀ ends tokens
   abbrev pub Done : Type 0
   Done = (at .hits ≡ length (hitsOf (tokensOf book) image))
       × ((at .fetched ≡ fetchesOf (tokensOf book) image)
+      × ((at .spared ≡ sparesOf (tokensOf book) image)
       × ((ends ≡ noted (λ h. h .0) (room ends₀ tokens₀) (hitsOf (tokensOf book) image) ends₀)
-      × (tokens ≡ noted (λ h. h .1) (room ends₀ tokens₀) (hitsOf (tokensOf book) image) tokens₀)))
+      × (tokens ≡ noted (λ h. h .1) (room ends₀ tokens₀) (hitsOf (tokensOf book) image) tokens₀))))
 
   pub rounding-done : length image < at .boundary → Done
   rounding-done h =
       let e = all-found book image at (l .found) (l .stands) h in
+      let n = all-counted book image at (l .found) (l .stands) h in
       let all = hitsOf (tokensOf book) image in (
         l .stands .counted ∙ ap length e,
         (
-          all-fetched book image at (l .found) (l .stands) h,
+          n .0,
           (
-            part-done (λ h. h .0) (room ends₀ tokens₀) (l .found) all ends₀ ends (omega arith) e (l .ends-hold),
-            part-done (λ h. h .1) (room ends₀ tokens₀) (l .found) all tokens₀ tokens (omega arith) e (l .tokens-hold),
+            n .1,
+            (
+              part-done (λ h. h .0) (room ends₀ tokens₀) (l .found) all ends₀ ends (omega arith) e (l .ends-hold),
+              part-done (λ h. h .1) (room ends₀ tokens₀) (l .found) all tokens₀ tokens (omega arith) e (l .tokens-hold),
+            ),
           ),
         ),
       )

@@ -12,7 +12,7 @@ use Rattle.book.specs.Laws.Accepted.{accepted-setting}
 use Rattle.image.specs.declared.skim.Skipped.{Skipped}
 use Rattle.image.specs.Rule5.{tokensOf, wordsIn, BySkip}
 use Rattle.image.specs.Sweeping.{Stands, Cached, Four, Paired, Skimmable, onAt, Leads, Skimmed}
-use Rattle.image.specs.Laws.RoundByRound.{fetched-small, short-upto}
+use Rattle.image.specs.Laws.RoundByRound.{looks-small, short-upto}
 use Rattle.image.specs.Laws.ShortRounds.{skims, skims-two}
 
 pub cached-is : {image skip : List ℕ} {b m n : ℕ} → Cached image skip b m → m ≡ n → Cached image skip b n
@@ -86,7 +86,7 @@ module _ {image skip pairs : List ℕ} {S b : ℕ} (g : Skimmable image skip pai
         up = up;
         positive = s .positive;
         near = omega (arith, s .near, g .within);
-        few = omega (arith, fetched-small (g .book) image (onAt (g .at) at looks) (g .known .found) s (g .within));
+        few = omega (arith, looks-small (g .book) image (onAt (g .at) at looks) (g .known .found) s (g .within));
       }
 
   pub skimming-begins : Skimming image skip pairs S b b 0

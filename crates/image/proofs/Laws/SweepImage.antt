@@ -14,7 +14,7 @@ use Rattle.book.specs.Laws.Accepted.{Summed, accepted-fit}
 use Rattle.tables.specs.Tables.{Tables, nodes, built, Lent, written, tooShort, shortestTable, Sizes, sizesOf, Building, build}
 use Rattle.tables.specs.Laws.Made.{written-lent, answerTo, build-made}
 use Rattle.tables.specs.Laws.Represents.{built-represents}
-use Rattle.whole.specs.Image.{Swept, room, hitsOf, fetchesOf, counted, noted, sweepImage}
+use Rattle.whole.specs.Image.{Swept, room, hitsOf, fetchesOf, sparesOf, counted, noted, sweepImage}
 use Rattle.image.specs.Results.{refusalFor}
 use Rattle.image.specs.Rule5.{tokensIn, tokensOf}
 use Rattle.image.specs.Sweeping.{Given}
@@ -29,7 +29,7 @@ refusalTo t r = elim r [
 module _ (image : List ℕ) (t : Tables) (ends numbers : List ℕ) where
   -- nothing is touched
   abbrev untouched : Verdict ℕ → Swept
-  untouched v = record { answer = v; fetched = 0; tables = t; ends = ends; tokens = numbers }
+  untouched v = record { answer = v; fetched = 0; spared = 0; tables = t; ends = ends; tokens = numbers }
 
   abbrev whole : List (List ℕ) → Swept
   whole tokens = let found = hitsOf tokens image in
@@ -37,6 +37,7 @@ module _ (image : List ℕ) (t : Tables) (ends numbers : List ℕ) where
       record {
         answer = counted r (length found);
         fetched = fetchesOf tokens image;
+        spared = sparesOf tokens image;
         tables = written (built tokens) t;
         ends = noted (λ h. h .0) r found ends;
         tokens = noted (λ h. h .1) r found numbers;
@@ -83,9 +84,9 @@ module _ (book : List ℕ) (t : Tables) where
 
 module _ (book image : List ℕ) (t : Tables) (ends numbers : List ℕ) where
   -- an image over its limit
-  pub answer-long : maxImage < length image → (v : Verdict ℕ) (f : ℕ) → v ≡ refusalFor book t → f ≡ 0
-      → record { answer = v; fetched = f; tables = t; ends = ends; tokens = numbers } ≡ sweepImage book image t ends numbers
-  answer-long h v f e z = rw z (ap (untouched image t ends numbers) e ∙ go (readBook book))
+  pub answer-long : maxImage < length image → (v : Verdict ℕ) (f g : ℕ) → v ≡ refusalFor book t → f ≡ 0 → g ≡ 0
+      → record { answer = v; fetched = f; spared = g; tables = t; ends = ends; tokens = numbers } ≡ sweepImage book image t ends numbers
+  answer-long h v f g e z y = rw (z, y) (ap (untouched image t ends numbers) e ∙ go (readBook book))
     where
       long : tooLong (length image) ≡ true
       long = lt-ltb maxImage (length image) h
@@ -101,7 +102,7 @@ module _ (book image : List ℕ) (t : Tables) (ends numbers : List ℕ) where
     here = record { answer = refused k v; tables = u }
 
     abbrev there : Swept
-    there = record { answer = refused k v; fetched = 0; tables = u; ends = ends; tokens = numbers }
+    there = record { answer = refused k v; fetched = 0; spared = 0; tables = u; ends = ends; tokens = numbers }
 
     same : (l w : ℕ) → here ≡ record { answer = refused l w; tables = t } → there ≡ untouched image t ends numbers (refused l w)
     same l w e =
@@ -185,14 +186,14 @@ module _ {book : List ℕ} (image : List ℕ) {t u : Tables} {sizes : Sizes} (b 
         let l : tooLong (length image) ≡ false = le-ltb maxImage (length image) small in
         cc
 
-    module _ {hits fetched : ℕ} {ends′ numbers′ : List ℕ} (h : hits ≡ length found) (f : fetched ≡ fetchesOf ts image)
+    module _ {hits fetched spared : ℕ} {ends′ numbers′ : List ℕ} (h : hits ≡ length found) (f : fetched ≡ fetchesOf ts image) (s : spared ≡ sparesOf ts image)
         (p : ends′ ≡ noted (λ h. h .0) (room ends numbers) found ends) (q : numbers′ ≡ noted (λ h. h .1) (room ends numbers) found numbers)
         {r : ℕ} (e : r ≡ min (length ends′) (length numbers′)) where
       room-same : r ≡ room ends numbers
       room-same =
           omega (arith, e, ap length p, ap length q, noted-long (λ h. h .0) (room ends numbers) ends (omega arith), noted-long (λ h. h .1) (room ends numbers) numbers (omega arith))
 
-      pub answer-built : (v : Verdict ℕ) (g : ℕ) → v ≡ counted r hits → g ≡ fetched
-          → record { answer = v; fetched = g; tables = u; ends = ends′; tokens = numbers′ } ≡ sweepImage book image t ends numbers
-      answer-built v g z k =
-          rw (z, k, room-same, h, f, b .filled, p, q) (to-whole ∙ ap (sweptTo image t ends numbers) (sym (b .read)))
+      pub answer-built : (v : Verdict ℕ) (g i : ℕ) → v ≡ counted r hits → g ≡ fetched → i ≡ spared
+          → record { answer = v; fetched = g; spared = i; tables = u; ends = ends′; tokens = numbers′ } ≡ sweepImage book image t ends numbers
+      answer-built v g i z k l =
+          rw (z, k, l, room-same, h, f, s, b .filled, p, q) (to-whole ∙ ap (sweptTo image t ends numbers) (sym (b .read)))

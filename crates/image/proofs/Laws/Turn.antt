@@ -25,7 +25,7 @@ use Rattle.image.specs.Rule5.{tokensOf, wordsIn, Accepted, closingOf, na
 use Rattle.image.specs.Sweeping.{Standing, Known, lowestOf, Learns, endAt, shiftAt, ByPair, Sees, Ended}
 use Rattle.image.specs.Laws.Roots.{first-shut, down-closes}
 use Rattle.image.specs.Laws.Spans.{none-renewed, none-loose, loose-upto}
-use Rattle.image.specs.Laws.RoundByRound.{depths, matched, raised, renewed-few, stands-fit, fetched-small}
+use Rattle.image.specs.Laws.RoundByRound.{depths, matched, raised, renewed-few, stands-fit, looks-small}
 
 -- The leftmost place.
 pub lowest-upto : (b depth : ℕ) (stop : Stop) → lowestOf b depth stop ≤ b
@@ -151,12 +151,14 @@ pub record Turned (book image : List ℕ) (at after : Standing) (hits : ℕ) : T
       ≡ renewed (at .boundary - endAt book image (at .boundary) .depth) (at .boundary) (at .boundary + shiftAt book image (at .boundary)) (inUse (at .spans))
   pub few : after .spans .used ≤ 5
   pub fetched : after .fetched ≡ at .fetched + loose (at .boundary) (lowest (at .boundary) (endAt book image (at .boundary))) (inUse (at .spans))
+  pub spared : let low = lowest (at .boundary) (endAt book image (at .boundary)) in
+      low + loose (at .boundary) low (inUse (at .spans)) + after .spared ≡ at .boundary + at .spared
   pub counted : after .hits ≡ hits
 
-pub turned-as : {book image : List ℕ} {at : Standing} {b hits f g : ℕ} {s t : Spans} → s ≡ t → f ≡ g
-    → Turned book image at (record { boundary = b; spans = t; fetched = g; hits = hits }) hits
-    → Turned book image at (record { boundary = b; spans = s; fetched = f; hits = hits }) hits
-turned-as p q w = rw (p, q) w
+pub turned-as : {book image : List ℕ} {at : Standing} {b hits f g m n : ℕ} {s t : Spans} → s ≡ t → f ≡ g → m ≡ n
+    → Turned book image at (record { boundary = b; spans = t; fetched = g; spared = n; hits = hits }) hits
+    → Turned book image at (record { boundary = b; spans = s; fetched = f; spared = m; hits = hits }) hits
+turned-as p q o w = rw (p, q, o) w
 
 low-before : (b d : ℕ) (o : Option ℕ) → elim o [ none ↦ b - d | some x ↦ b - 1 - d ] ≤ b
 low-before b d none = omega arith
@@ -167,7 +169,7 @@ module _ {book image : List ℕ} {at : Standing} {a : Outcome} (k : Known book i
   abbrev here : ℕ
   here = at .boundary
 
-  pub ended-numbers : (a .depth ≤ here) × (a .low ≤ here) × (1 ≤ a .by) × (a .by ≤ 1024) × (here ≤ maxImage) × (at .fetched ≤ 2 ^ 36)
+  pub ended-numbers : (a .depth ≤ here) × (a .low ≤ here) × (1 ≤ a .by) × (a .by ≤ 1024) × (here ≤ maxImage) × (at .fetched + at .spared ≤ 2 ^ 36)
   ended-numbers =
       let n = raised book image at (k .found) (k .stands) h in (
         omega (arith, e .deep, depths book image at (k .found) (k .stands) h),
@@ -175,7 +177,7 @@ module _ {book image : List ℕ} {at : Standing} {a : Outcome} (k : Known book i
         omega (arith, e .by, n),
         omega (arith, e .by, n),
         omega (arith, h, w),
-        fetched-small book image at (k .found) (k .stands) w,
+        looks-small book image at (k .found) (k .stands) w,
       )
 
   pub ended-fits : Fits here (at .spans)
@@ -191,22 +193,26 @@ module _ {book image : List ℕ} {at : Standing} {a : Outcome} (k : Known book i
   pub turned : (spans : Spans) (n hits : ℕ)
       → (inUse spans ≡ renewed (here - a .depth) here (here + a .by) (inUse (at .spans))) × (spans .used ≤ 5)
       → n ≡ loose here (a .low) (inUse (at .spans))
-      → Turned book image at (record { boundary = here + a .by; spans = spans; fetched = at .fetched + n; hits = hits }) hits
+      → Turned book image at
+      (record { boundary = here + a .by; spans = spans; fetched = at .fetched + n; spared = at .spared + (here - a .low - n); hits = hits }) hits
   turned spans n hits u f = record {
     boundary = ap (λ n. here + n) (e .by);
     spans = u .0 ∙ rw (e .deep, e .by) refl;
     few = u .1;
     fetched = ap (λ n. at .fetched + n) (f ∙ ap (λ q. loose here q (inUse (at .spans))) (e .low));
+    spared = rw (sym (e .low), sym f) (omega (arith, ended-numbers .1, f, ended-loose));
     counted = refl;
   }
 
   -- mostly nothing is remembered, before and after.
   pub turned-bare : (hits : ℕ) → (eqb (at .spans .used) 0 && ltb (a .depth) (4 * a .by)) ≡ true
-      → Turned book image at (record { boundary = here + a .by; spans = at .spans; fetched = at .fetched + (here - a .low); hits = hits }) hits
+      → Turned book image at
+      (record { boundary = here + a .by; spans = at .spans; fetched = at .fetched + (here - a .low); spared = at .spared; hits = hits }) hits
   turned-bare hits t =
       let n = ended-numbers in
       let bare : at .spans .used ≡ 0 = eqb-true _ _ (and-l (eqb (at .spans .used) 0) _ t) in
       let l : a .depth < 4 * a .by = ltb-true _ _ (and-r (eqb (at .spans .used) 0) _ t) in
-      turned (at .spans) (here - a .low) hits
+      turned-as refl refl (omega arith)
+      (turned (at .spans) (here - a .low) hits
       (none-renewed (at .spans) bare here (a .depth) (a .by) (n .0) (n .2) l, k .stands .few)
-      (sym (none-loose (at .spans) bare here (a .low)))
+      (sym (none-loose (at .spans) bare here (a .low))))

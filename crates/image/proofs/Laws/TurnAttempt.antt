@@ -29,7 +29,7 @@ pub record Goes (book image : List ℕ) (at after : Standing) (ends ends′ toke
 -- Where a round begins.
 module _ {book image : List ℕ} {b hits : ℕ} (s : Begun book image b hits) where
   abbrev pub begunAt : Standing
-  begunAt = record { boundary = b; spans = s .at .spans; fetched = s .at .fetched; hits = hits }
+  begunAt = record { boundary = b; spans = s .at .spans; fetched = s .at .fetched; spared = s .at .spared; hits = hits }
 
   pub begun-known : Known book image begunAt
   begun-known = rw (sym (s .place), sym (s .so-far)) (s .known)
@@ -101,6 +101,6 @@ module _ {book image label token first next : List ℕ} {count shortest : ℕ} (
         → Noted ends tokens (at .hits) (metAt book image b) ends′ tokens′ (after .hits) → Goes book image at after ends ends′ tokens tokens′
     round-goes {after} w n = record {
       more = metAt book image b;
-      stands = λ found s. turns book image at found s h after (w .boundary) (w .spans) (w .few) (w .fetched) (w .counted ∙ n .number);
+      stands = λ found s. turns book image at found s h after (w .boundary) (w .spans) (w .few) (w .fetched) (w .spared) (w .counted ∙ n .number);
       noted = n;
     }

@@ -14,10 +14,10 @@ whole : (room all : ℕ) → all ≤ room → accepted all ≡ counted room all
 whole room all h = cc (le-ltb room all h)
 
 returns : tie.Need-returns
-returns c = let a = c .before .before .args in (many (a .room) (a .found .hits) (c .if1 .taken), refl)
+returns c = let a = c .before .before .args in (many (a .room) (a .found .hits) (c .if1 .taken), refl, refl)
 
 returns-2 : tie.Need-returns-2
-returns-2 c = let a = c .before .before .args in (whole (a .room) (a .found .hits) (c .if1 .left), refl)
+returns-2 c = let a = c .before .before .args in (whole (a .room) (a .found .hits) (c .if1 .left), refl, refl)
 
 pub answer-spec : {M : Type 1} → statement M
 answer-spec = tie.close (tie.spec returns returns-2)

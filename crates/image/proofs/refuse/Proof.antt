@@ -27,17 +27,17 @@ add-room c = omega (arith, summed-small (start c .args .book .now) (totals c) (s
 returns : tie.Need-returns
 returns c = let d = c .before in
     let a = start d .args in
-    (refl, λ t e. refusal-short (a .book .now) t (totals d) (sums d) (a .entries) e (c .if1 .taken))
+    (refl, refl, λ t e. refusal-short (a .book .now) t (totals d) (sums d) (a .entries) e (c .if1 .taken))
 
 returns-2 : tie.Need-returns-2
 returns-2 c = let why = c .before .why .given .0 .0 in
     let d = c .before .before .before in
-    (refl, λ t e. refusal-unread (d .before .before .args .book .now) t (refusalOf why .0) (refusalOf why .1) (ap verdictOf (sym (c .before .why .given .1)) ∙ d .read .ensures))
+    (refl, refl, λ t e. refusal-unread (d .before .before .args .book .now) t (refusalOf why .0) (refusalOf why .1) (ap verdictOf (sym (c .before .why .given .1)) ∙ d .read .ensures))
 
 returns-3 : tie.Need-returns-3
 returns-3 c = let d = c .before in
     let a = start d .args in
-    (refl, λ t e. refusal-long (a .book .now) t (totals d) (sums d) (a .entries) e (c .if1 .left))
+    (refl, refl, λ t e. refusal-long (a .book .now) t (totals d) (sums d) (a .entries) e (c .if1 .left))
 
 pub refuse-spec : {M : Type 1} → statement M
 refuse-spec =

@@ -7,7 +7,7 @@ use Rattle.book.specs.Book.{maxImage}
 use Rattle.book.specs.Answers.{refusalOf}
 use Rattle.tables.specs.Tables.{Tables, Sizes}
 use Rattle.trie.specs.Answers.{tables, answerOf}
-use Rattle.image.specs.Results.{sweptOf, fetchedOf}
+use Rattle.image.specs.Results.{sweptOf, fetchedOf, sparedOf}
 use Rattle.image.proofs.Laws.SweepImage.{Built, answer-long, answer-refused, is-built, built-given, answer-built}
 use Rattle.image.proofs.sweep_image.Statement.{statement}
 use Rattle.image.proofs.sweep_image.Tie as tie
@@ -42,7 +42,8 @@ returns : tie.Need-returns
 returns c = let s = c .before .before .before .before .before .before .before .before .before .before .before .before .before .before .before .before .before in
     let a = s .args in
     answer-long (a .book .now) (a .image .now) (lent s) (a .ends .now) (a .tokens .now) (c .before .before .before .before .before .before .before .if1 .taken)
-    (sweptOf (c .refuse .result)) (fetchedOf (c .refuse .result)) (c .refuse .ensures .1 (lent s) (c .before .shortest .ensures)) (c .refuse .ensures .0)
+    (sweptOf (c .refuse .result)) (fetchedOf (c .refuse .result)) (sparedOf (c .refuse .result))
+    (c .refuse .ensures .2 (lent s) (c .before .shortest .ensures)) (c .refuse .ensures .0) (c .refuse .ensures .1)
 
 sweep-requires : tie.Need-sweep-requires
 sweep-requires c κs = let z = c .before .before .before .before .before .before .before in
@@ -69,8 +70,9 @@ returns-4 c = let w = c .before .before .before .before .before .before in
     let a = start d .args in
     let e = w .sweep .ensures in
     answer-built (a .image .now) (stand z) (within d) (a .ends .now) (a .tokens .now)
-    (e .0) (e .1 .0) (e .1 .1 .0) (e .1 .1 .1) (c .before .least .ensures) (sweptOf (c .answer .result)) (fetchedOf (c .answer .result))
-    (c .answer .ensures .0) (c .answer .ensures .1)
+    (e .0) (e .1 .0) (e .1 .1 .0) (e .1 .1 .1 .0) (e .1 .1 .1 .1) (c .before .least .ensures)
+    (sweptOf (c .answer .result)) (fetchedOf (c .answer .result)) (sparedOf (c .answer .result))
+    (c .answer .ensures .0) (c .answer .ensures .1) (c .answer .ensures .2)
 
 pub sweep-image-spec : {M : Type 1} → statement M
 sweep-image-spec =

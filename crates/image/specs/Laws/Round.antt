@@ -1,4 +1,4 @@
--- A round in an image at hand, as a whole: it does what the rules' steps do one by one, for what is fetched and what is found.
+-- A round in an image at hand, as a whole: it does what the rules' steps do one by one, for what is fetched, spared and found.
 use Prim.Native.Nat.{ℕ, zero, suc, _+_, _-_, _*_, _≤_, _<_}
 use native.Mathlib.Omega.{arith}
 use native.Mathlib.Nat.{le-trans}
@@ -12,13 +12,14 @@ use lib.ListN.{length, getD, take, drop}
 use Rattle.rules.specs.Rules.{Tree, Stretch, Config, Event, Step, goes, hitsUp, recall, ended, shiftedBy, endRound, taken, look, next, follow, trace}
 use Rattle.rules.specs.Words.{allWords}
 use Rattle.rules.specs.Tokens.{ofTokens, shiftOf}
-use Rattle.rules.specs.Sweep.{bytesOf, places, hits}
+use Rattle.rules.specs.Sweep.{bytesOf, places, recalls, looks, hits}
 use Rattle.rules.specs.Laws.Setting.{Setting}
 use Rattle.rules.specs.Laws.Tests.{or-nr}
 use Rattle.rules.specs.Laws.Limit.{ended-laid}
 use Rattle.rules.specs.Laws.Limit.Span.{Spans, kept-spans}
 use Rattle.rules.specs.Laws.Limit.Count.{loose}
 use Rattle.rules.specs.Laws.Limit.Ends.{stepsLeft, steps-enough, less-end}
+use Rattle.rules.specs.Laws.Limit.Looks.{looks-split, end-looks}
 use Rattle.rules.specs.Laws.Exact.Reads.{byteOf, reads-under}
 use Rattle.rules.specs.Laws.Exact.Shift.{Known, shift-ge}
 use Rattle.rules.specs.Laws.Exact.Configs.{Inv, end-inv, recall-known}
@@ -26,16 +27,19 @@ use Rattle.rules.specs.Laws.Exact.Walk.{NextGood, next-good}
 use Rattle.image.specs.Rounds.{Reached, meeting, down, reached, met, lowest}
 use Rattle.image.specs.Laws.Down.{down-cases, met-is}
 use Rattle.image.specs.Laws.Loose.{cost, loose-at, loose-none}
-use Rattle.image.specs.Laws.Events.{end-places, end-hits, trace-few, trace-over}
+use Rattle.image.specs.Laws.Events.{end-places, end-hits}
 
 -- the start of a round at boundary b
 abbrev pub startAt : ℕ → List (Stretch (List ℕ)) → Config (List ℕ)
 startAt b ss = record { boundary = b; node = []; depth = 0; stretches = ss }
 
 module _ (tokens : List (List ℕ)) (S D : ℕ) (setting : Setting tokens S D) (image : List ℕ) where
-  -- What is fetched and what is found from the start of a round on, in at most `fuel` steps.
+  -- What is fetched, spared and found from the start of a round on, in at most `fuel` steps.
   abbrev pub fetchesFrom : ℕ → ℕ → ℕ → List (Stretch (List ℕ)) → ℕ
   fetchesFrom fuel k b ss = length (places (trace (ofTokens tokens S) (length image) (bytesOf image) fuel k (startAt b ss)))
+
+  abbrev pub sparesFrom : ℕ → ℕ → ℕ → List (Stretch (List ℕ)) → ℕ
+  sparesFrom fuel k b ss = length (recalls (trace (ofTokens tokens S) (length image) (bytesOf image) fuel k (startAt b ss)))
 
   abbrev pub hitsFrom : ℕ → ℕ → ℕ → List (Stretch (List ℕ)) → List (ℕ × ℕ)
   hitsFrom fuel k b ss = hits (trace (ofTokens tokens S) (length image) (bytesOf image) fuel k (startAt b ss))
@@ -58,12 +62,14 @@ module _ (tokens : List (List ℕ)) (S D : ℕ) (setting : Setting tokens S D) (
       shiftedBy (ofTokens tokens S)
       (record { boundary = b; node = ending b .node; depth = ending b .depth; stretches = ss }) (raise b) .stretches
 
-  -- A round as a whole.
+  -- A round as a whole. Of the places from its lowest up to b it fetches those in no stretch, and spares the others.
   pub record Round (b : ℕ) (ss : List (Stretch (List ℕ))) (fuel k : ℕ) : Type 0 where
     pub left : ℕ
     pub count : ℕ
     pub starts : Starts (b + raise b) (afterwards b ss) left
     pub fetches : fetchesFrom fuel k b ss ≡ loose b (lowest b (ending b)) ss + fetchesFrom left count (b + raise b) (afterwards b ss)
+    pub spares : lowest b (ending b) + loose b (lowest b (ending b)) ss + sparesFrom fuel k b ss
+        ≡ b + sparesFrom left count (b + raise b) (afterwards b ss)
     pub finds : hitsFrom fuel k b ss ≡ met (ofTokens tokens S) image b ++ hitsFrom left count (b + raise b) (afterwards b ss)
     pub inside : ending b .depth ≤ b
     pub short : ending b .depth ≤ D
@@ -90,13 +96,14 @@ module _ (tokens : List (List ℕ)) (S D : ℕ) (setting : Setting tokens S D) (
       inv : Inv (byteOf image) D (here (r .node) (r .depth))
       enough : stepsLeft (length image) D b (r .depth) ≤ left
       fetches : loose b (b - d) ss + length (places es) ≡ loose b (lowest b r) ss + length (places (run left count (over r)))
+      looked : lowest b r + d + length (looks es) ≡ b + length (looks (run left count (over r)))
       finds : hits es ≡ hits (hitsUp tree b (r .node) (r .depth)) ++ hits (run left count (over r))
 
     -- So it is where the round ends,
     end-rest : (fuel k e : ℕ) (r : Reached (List ℕ)) → Inv (byteOf image) D (here (r .node) (r .depth))
-        → stepsLeft (length image) D b (r .depth) ≤ fuel → b - e ≡ lowest b r
+        → stepsLeft (length image) D b (r .depth) ≤ fuel → b - e ≡ lowest b r → e ≤ b
         → Rest e r (endRound tree (here (r .node) (r .depth)) (r .closing) .events ++ run fuel k (over r))
-    end-rest fuel k e r i l z =
+    end-rest fuel k e r i l z up =
         let c = here (r .node) (r .depth) in
         record {
           left = fuel;
@@ -104,14 +111,15 @@ module _ (tokens : List (List ℕ)) (S D : ℕ) (setting : Setting tokens S D) (
           inv = i;
           enough = l;
           fetches = rw (z, end-places tree c (r .closing) (run fuel k (over r))) refl;
+          looked = rw (end-looks tree c (r .closing) (run fuel k (over r))) (omega arith);
           finds = end-hits tree c (r .closing) (run fuel k (over r));
         }
 
     -- and with a byte in front, fetched or recalled.
     byte-rest : (x : Event (List ℕ)) (d : ℕ) (r : Reached (List ℕ)) (es : List (Event (List ℕ))) (o : Option ℕ)
-        → d < b → recall tree ss (b - 1 - d) ≡ o → length (places (x ∷ es)) ≡ cost o + length (places es) → hits (x ∷ es) ≡ hits es
-        → Rest (d + 1) r es → Rest d r (x ∷ es)
-    byte-rest x d r es o d< e p q w =
+        → d < b → recall tree ss (b - 1 - d) ≡ o → length (places (x ∷ es)) ≡ cost o + length (places es)
+        → length (looks (x ∷ es)) ≡ suc (length (looks es)) → hits (x ∷ es) ≡ hits es → Rest (d + 1) r es → Rest d r (x ∷ es)
+    byte-rest x d r es o d< e p l q w =
         let y : b - (d + 1) ≡ b - 1 - d = omega arith in
         let z : b - d ≡ suc (b - 1 - d) = omega arith in
         let c = rw e at (loose-at tree D b (b - 1 - d) 0 ss (omega arith) spans) in
@@ -121,6 +129,7 @@ module _ (tokens : List (List ℕ)) (S D : ℕ) (setting : Setting tokens S D) (
           inv = w .inv;
           enough = w .enough;
           fetches = rw z (omega (arith, c, p, rw y at (w .fetches)));
+          looked = omega (arith, l, w .looked);
           finds = q ∙ w .finds;
         }
 
@@ -138,6 +147,9 @@ module _ (tokens : List (List ℕ)) (S D : ℕ) (setting : Setting tokens S D) (
           → next tree (length image) (here v d) ≡ look tree (here v d) (recall tree ss (b - 1 - d))
       next-look t = cc (le-ltb (length image) b h)
 
+      below : (tree .leaf v || eqb d b) ≡ false → Inv (byteOf image) D (here v d) → d < b
+      below t i = omega (arith, i .inside, eqb-false d b (or-nr (tree .leaf v) _ t))
+
     module _ (fuel k : ℕ) (v : List ℕ) (d : ℕ) (i : Inv (byteOf image) D (here v d)) where
       -- the step by the byte x, and what it leads to, going forward
       abbrev by : ℕ → Step (List ℕ)
@@ -150,16 +162,13 @@ module _ (tokens : List (List ℕ)) (S D : ℕ) (setting : Setting tokens S D) (
           → Rest (d + 1) r (by x .events ++ run fuel k (by x .config))
 
       module _ (r : Reached (List ℕ)) (t : (tree .leaf v || eqb d b) ≡ false) (w : (k : ℕ) → After r (getD image (b - 1 - d) 0) k) where
-        d< : d < b
-        d< = omega (arith, i .inside, eqb-false d b (or-nr (tree .leaf v) _ t))
-
         -- Whether its byte is remembered or not, the round takes the image's.
         look-rest : (o : Option ℕ) → recall tree ss (b - 1 - d) ≡ o → Known (byteOf image) (b - 1 - d) o
             → NextGood tokens S D setting image (here v d) (look tree (here v d) o)
             → Rest d r (follow tree (bytesOf image) (run fuel) k (here v d) (look tree (here v d) o))
-        look-rest none e known g = byte-rest _ d r _ none d< e (omega arith) refl (w (k + 1) (g .inv) (g .less))
+        look-rest none e known g = byte-rest _ d r _ none (below v d t i) e (omega arith) refl refl (w (k + 1) (g .inv) (g .less))
         look-rest (some x) e known g =
-            byte-rest _ d r _ (some x) d< e (omega arith) refl (subst (λ y. After r y k) (sym known) (w k) (g .inv) (g .less))
+            byte-rest _ d r _ (some x) (below v d t i) e (omega arith) refl refl (subst (λ y. After r y k) (sym known) (w k) (g .inv) (g .less))
 
         on-rest : Rest d r (follow tree (bytesOf image) (run fuel) k (here v d) (next tree (length image) (here v d)))
         on-rest =
@@ -172,8 +181,8 @@ module _ (tokens : List (List ℕ)) (S D : ℕ) (setting : Setting tokens S D) (
     walks-on f fuel ih k v d m i near l =
         let l′ : stepsLeft (length image) D b d ≤ fuel = omega arith in
         down-cases tree image b f v d m (λ r. Rest d r (run (suc fuel) k (here v d)))
-        (λ t. rw (next-stop v d t) (end-rest fuel k d _ i l′ refl))
-        (λ t e. on-rest fuel k v d i _ t (λ k _ _. rw e (end-rest fuel k (d + 1) _ i l′ (omega arith))))
+        (λ t. rw (next-stop v d t) (end-rest fuel k d _ i l′ refl (i .inside)))
+        (λ t e. on-rest fuel k v d i _ t (λ k _ _. rw e (end-rest fuel k (d + 1) _ i l′ (omega arith) (omega (arith, below v d t i)))))
         (λ t w e. on-rest fuel k v d i _ t (λ k j less. rw e (ih k w (d + 1) _ (rw e at j) (omega arith) (le-trans (rw e at less) l′))))
 
     walks : (f fuel : ℕ) → Walks f fuel
@@ -202,11 +211,14 @@ module _ (tokens : List (List ℕ)) (S D : ℕ) (setting : Setting tokens S D) (
     whole : (fuel k : ℕ) → Rest 0 (ending b) (run fuel k (startAt b ss)) → Round b ss fuel k
     whole fuel k w =
         let z : b - 0 ≡ b = omega arith in
+        let fresh = rw z at (w .fetches) in
+        let none = loose-none tree D b 0 ss spans in
         record {
           left = w .left;
           count = w .count;
           starts = over-starts (ending b) (w .left) (w .inv) (w .enough);
-          fetches = omega (arith, rw z at (w .fetches), loose-none tree D b 0 ss spans);
+          fetches = omega arith;
+          spares = omega (arith, w .looked, looks-split (run fuel k (startAt b ss)), looks-split (run (w .left) (w .count) (over (ending b))));
           finds = w .finds ∙ ap (λ l. l ++ hits (run (w .left) (w .count) (over (ending b)))) (met-is tokens S b image);
           inside = w .inv .inside;
           short = w .inv .short;
@@ -224,17 +236,3 @@ module _ (tokens : List (List ℕ)) (S D : ℕ) (setting : Setting tokens S D) (
     spans = tt;
     enough = λ _. steps-enough (length image) D S _ (setting .positive) (omega arith);
   }
-
-  -- When the boundary has passed the image, nothing is left.
-  pub none-fetched : (b : ℕ) (ss : List (Stretch (List ℕ))) (fuel k : ℕ) → length image < b → fetchesFrom fuel k b ss ≡ 0
-  none-fetched b ss fuel k h = ap length (trace-over (ofTokens tokens S) (length image) (bytesOf image) fuel k (startAt b ss) h .0)
-
-  pub none-found : (b : ℕ) (ss : List (Stretch (List ℕ))) (fuel k : ℕ) → length image < b → hitsFrom fuel k b ss ≡ []
-  none-found b ss fuel k h = trace-over (ofTokens tokens S) (length image) (bytesOf image) fuel k (startAt b ss) h .1
-
-  -- No more is fetched or found than there are steps.
-  pub fetches-few : (b : ℕ) (ss : List (Stretch (List ℕ))) (fuel k : ℕ) → fetchesFrom fuel k b ss ≤ fuel
-  fetches-few b ss fuel k = trace-few (ofTokens tokens S) (length image) (bytesOf image) fuel k (startAt b ss) .0
-
-  pub hits-few : (b : ℕ) (ss : List (Stretch (List ℕ))) (fuel k : ℕ) → length (hitsFrom fuel k b ss) ≤ fuel
-  hits-few b ss fuel k = omega (arith, trace-few (ofTokens tokens S) (length image) (bytesOf image) fuel k (startAt b ss) .1)

@@ -1,25 +1,27 @@
 -- A sweep round by round: how it begins, what a round does, where it ends, and that its counts stay small.
 use Prim.Native.Nat.{ℕ, suc, _+_, _-_, _*_, _≤_, _<_, _^_}
 use native.Mathlib.Omega.{arith}
-use native.Mathlib.Nat.{mul-le-mul}
 use mathlib.Core.Path.{_≡_, refl, ap, sym, subst, _∙_}
-use mathlib.Core.List.{List, [], _++_, append-nil, append-assoc}
+use mathlib.Core.List.{List, [], _∷_, _++_, append-nil, append-assoc}
 use lib.ListN.{length, take, drop, length-append}
-use Rattle.rules.specs.Rules.{Stretch}
+use Rattle.rules.specs.Rules.{Stretch, Event, done, trace}
 use Rattle.rules.specs.Words.{allWords}
 use Rattle.rules.specs.Tokens.{ofTokens, shiftOf, shortestOf, longestOf}
-use Rattle.rules.specs.Sweep.{happens}
+use Rattle.rules.specs.Sweep.{happens, bytesOf, places, recalls, looks, hits}
 use Rattle.rules.specs.Laws.Limit.Count.{loose}
+use Rattle.rules.specs.Laws.Limit.Looks.{looks-split}
 use Rattle.rules.specs.Laws.Exact.Shift.{shift-ge, shift-upto}
 use Rattle.book.specs.Book.{readBook, accepted, maxImage, maxBody}
 use Rattle.rules.specs.Laws.Lengths.{shortest-is}
 use Rattle.book.specs.Laws.Accepted.{accepted-setting, accepted-longest, accepted-some, accepted-fit}
-use Rattle.whole.specs.Image.{hitsOf, fetchesOf}
+use Rattle.book.specs.Laws.Sweep.{book-looks}
+use Rattle.whole.specs.Image.{hitsOf, fetchesOf, sparesOf}
 use Rattle.image.specs.Rounds.{Reached, reached, met, lowest}
 use Rattle.image.specs.Spans.{placesOf, inUse, renewed, Fits}
 use Rattle.image.specs.Rule5.{tokensOf}
 use Rattle.image.specs.Sweeping.{Standing, Stands}
-use Rattle.image.specs.Laws.Round.{Round, fetchesFrom, afterwards, round, first-starts, none-fetched, none-found, fetches-few, hits-few}
+use Rattle.image.specs.Laws.Round.{startAt, Round, fetchesFrom, sparesFrom, afterwards, round, first-starts}
+use Rattle.image.specs.Laws.Events.{trace-few, trace-over}
 use Rattle.image.specs.Laws.Spans.{loose-places, ended-places, spans-fit, spans-few}
 
 module _ (book image : List ℕ) where
@@ -37,9 +39,9 @@ module _ (book image : List ℕ) where
 
   -- At the start nothing is found.
   pub begins : (at : Standing) → readBook book ≡ accepted ts → at .boundary ≡ S → inUse (at .spans) ≡ [] → at .spans .used ≡ 0 → at .fetched ≡ 0
-      → at .hits ≡ 0 → Stands book image at []
+      → at .spared ≡ 0 → at .hits ≡ 0 → Stands book image at []
   unfolding happens
-  begins at read e u w f h =
+  begins at read e u w f g h =
       let setting = accepted-setting book ts read in
       let fuel = suc (length image) * (D + 2) in
       record {
@@ -52,41 +54,38 @@ module _ (book image : List ℕ) where
         few = omega arith;
         finds = rw e refl;
         fetches = let z : fetchesFrom ts S D setting image fuel 0 (at .boundary) [] ≡ fetchesOf ts image = rw e refl in omega (arith, f);
+        spares = let z : sparesFrom ts S D setting image fuel 0 (at .boundary) [] ≡ sparesOf ts image = rw e refl in omega (arith, g);
         counted = h;
         positive = omega (arith, e, setting .positive);
         near = omega (arith, e, short-upto read);
       }
 
-  -- All that is fetched and found is little enough to count.
-  module _ (read : readBook book ≡ accepted ts) (small : length image ≤ maxImage) where
-    steps-small : suc (length image) * (D + 2) ≤ 16777217 * 1026
-    steps-small = mul-le-mul {n₁ = suc (length image)} {m₁ = D + 2} {n₂ = 16777217} {m₂ = 1026} (omega arith) (omega (arith, accepted-longest book ts read))
+  abbrev all : List (Event (List ℕ))
+  all = happens ts (length image) (bytesOf image)
 
-    few-hits : length (hitsOf ts image) ≤ 16777217 * 1026
+  -- All looks are few enough to count, and so is all that is fetched, spared and found.
+  module _ (read : readBook book ≡ accepted ts) (small : length image ≤ maxImage) where
+    few-looks : length (looks all) ≤ 16777216 * 1024
+    few-looks = book-looks book ts read (length image) (bytesOf image) small
+
+    few-hits : length (hits all) ≤ 16777216 * 1024
     unfolding happens
     few-hits =
         let fuel = suc (length image) * (D + 2) in
-        omega (arith, hits-few ts S D (accepted-setting book ts read) image S [] fuel 0, steps-small)
-
-    few-fetches : fetchesOf ts image ≤ 16777217 * 1026
-    unfolding happens
-    few-fetches =
-        let fuel = suc (length image) * (D + 2) in
-        omega (arith, fetches-few ts S D (accepted-setting book ts read) image S [] fuel 0, steps-small)
+        omega (arith, trace-few (ofTokens ts S) (length image) (bytesOf image) fuel 0 (startAt S []), few-looks)
 
   module _ (at : Standing) (found : List (ℕ × ℕ)) (s : Stands book image at found) where
-    -- Past the image all is found, and all was fetched.
-    pub all-found : length image < at .boundary → found ≡ hitsOf ts image
-    all-found h =
-        let setting = accepted-setting book ts (s .read) in
-        sym (append-nil found)
-        ∙ ap (λ l. found ++ l) (sym (none-found ts S D setting image (at .boundary) (s .stretches) (s .fuel) (s .count) h))
-        ∙ s .finds
+    -- Past the image nothing is left: all is found, and all was fetched and spared.
+    module _ (h : length image < at .boundary) where
+      none : {A : Type 0} (f : List (Event (List ℕ)) → List A) → f [] ≡ [] → f (done ∷ []) ≡ []
+          → f (trace (ofTokens ts S) (length image) (bytesOf image) (s .fuel) (s .count) (startAt (at .boundary) (s .stretches))) ≡ []
+      none f e g = trace-over (ofTokens ts S) (length image) (bytesOf image) f e g (s .fuel) (s .count) (startAt (at .boundary) (s .stretches)) h
 
-    pub all-fetched : length image < at .boundary → at .fetched ≡ fetchesOf ts image
-    all-fetched h =
-        let setting = accepted-setting book ts (s .read) in
-        omega (arith, s .fetches, none-fetched ts S D setting image (at .boundary) (s .stretches) (s .fuel) (s .count) h)
+      pub all-found : found ≡ hitsOf ts image
+      all-found = sym (append-nil found) ∙ ap (λ l. found ++ l) (sym (none hits refl refl)) ∙ s .finds
+
+      pub all-counted : (at .fetched ≡ fetchesOf ts image) × (at .spared ≡ sparesOf ts image)
+      all-counted = omega (arith, s .fetches, s .spares, ap length (none places refl refl), ap length (none recalls refl refl))
 
     -- What the code asks of the counts and of the stretches.
     module _ (small : length image ≤ maxImage) where
@@ -95,8 +94,8 @@ module _ (book image : List ℕ) where
           let l = ap length (s .finds) in
           omega (arith, s .counted, rw length-append at l, few-hits (s .read) small)
 
-      pub fetched-small : at .fetched ≤ 2 ^ 36
-      fetched-small = omega (arith, s .fetches, few-fetches (s .read) small)
+      pub looks-small : at .fetched + at .spared ≤ 2 ^ 36
+      looks-small = omega (arith, s .fetches, s .spares, looks-split all, few-looks (s .read) small)
 
       pub stands-fit : Fits (at .boundary) (at .spans)
       stands-fit = record {
@@ -150,9 +149,10 @@ module _ (book image : List ℕ) where
       pub turns : (after : Standing) → after .boundary ≡ b + by
           → inUse (after .spans) ≡ renewed (b - r .depth) b (b + by) (inUse (at .spans)) → after .spans .used ≤ 5
           → after .fetched ≡ at .fetched + loose b (lowest b r) (inUse (at .spans))
+          → lowest b r + loose b (lowest b r) (inUse (at .spans)) + after .spared ≡ b + at .spared
           → after .hits ≡ at .hits + length (met (ofTokens ts S) image b)
           → Stands book image after (found ++ met (ofTokens ts S) image b)
-      turns after e u w f g = record {
+      turns after e u w f p g = record {
         read = s .read;
         stretches = ss;
         fuel = turn .left;
@@ -163,6 +163,7 @@ module _ (book image : List ℕ) where
         finds =
             rw e (append-assoc found (met (ofTokens ts S) image b) _ ∙ ap (λ l. found ++ l) (sym (turn .finds)) ∙ s .finds);
         fetches = rw e (omega (arith, f, loose-same, turn .fetches, s .fetches));
+        spares = rw e (omega (arith, p, loose-same, turn .spares, s .spares));
         counted = g ∙ rw length-append (omega (arith, s .counted));
         positive = omega (arith, s .positive);
         near = omega (arith, e, raised);

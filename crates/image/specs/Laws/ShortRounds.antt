@@ -24,8 +24,8 @@ module _ (f : Spans) (bare : f .used ≡ 0) (b d y : ℕ) (r : Reached (List ℕ
   nothing-kept : (by : ℕ) → 1 ≤ by → d < 4 → inUse f ≡ renewed (b - r .depth) b (b + by) (inUse f)
   nothing-kept by i l = none-renewed f bare b (r .depth) by (omega arith) i (omega arith)
 
-  some-loose : d + 1 ≡ loose b (lowest b r) (inUse f)
-  some-loose = sym (none-loose f bare b (lowest b r) ∙ rw closing (omega arith))
+  all-loose : (lowest b r + loose b (lowest b r) (inUse f) ≡ b) × (d + 1 ≡ loose b (lowest b r) (inUse f))
+  all-loose = rw (none-loose f bare b (lowest b r), closing) (omega arith, omega arith)
 
 module _ (book image : List ℕ) (at : Standing) (found : List (ℕ × ℕ)) (s : Stands book image at found) (h : at .boundary ≤ length image) where
   abbrev ts : List (List ℕ)
@@ -50,10 +50,11 @@ module _ (book image : List ℕ) (at : Standing) (found : List (ℕ × ℕ)) (s 
     passes d y deep closing free l i =
         let no-hit : met (ofTokens ts S) image b ≡ [] = ap (map (λ i. (b, i))) free in
         let z : at .hits ≡ at .hits + 0 = omega arith in
+        let all = all-loose (at .spans) bare b d y r deep closing i in
         subst (Stands book image (onAt at (b + by) (d + 1))) (ap (λ l. found ++ l) no-hit ∙ append-nil found)
         (turns book image at found s h (onAt at (b + by) (d + 1)) refl
         (nothing-kept (at .spans) bare b d y r deep closing i by (raised book image at found s h .0) l) (s .few)
-        (ap (λ n. at .fetched + n) (some-loose (at .spans) bare b d y r deep closing i))
+        (ap (λ n. at .fetched + n) (all .1)) (ap (λ n. n + at .spared) (all .0))
         (z ∙ ap (λ l. at .hits + length l) (sym no-hit)))
 
     module _ (skip : List ℕ) (right : BySkip book S skip) (x : ℕ) (is : x ≡ getD image (b - 1) 0) (byte : x < 256)

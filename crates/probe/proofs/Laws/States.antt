@@ -59,7 +59,7 @@ five (p ∷ q ∷ r ∷ s ∷ t ∷ u ∷ ss) h = absurd (omega (arith, h))
 -- a state's numbers, where n says whether a byte is due and the slots are these
 abbrev pub numbersBy : Scan → ℕ → List Slot → List ℕ
 numbersBy s n ss =
-    s .image ∷ s .shortest ∷ s .count ∷ s .boundary ∷ s .node ∷ s .depth ∷ n ∷ s .supplied
+    s .image ∷ s .shortest ∷ s .count ∷ s .boundary ∷ s .node ∷ s .depth ∷ n ∷ s .supplied ∷ s .spared
     ∷ (slotNumbers ss ++ (s .end ∷ s .hit ∷ []))
 
 -- All of them stored one by one.

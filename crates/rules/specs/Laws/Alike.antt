@@ -176,7 +176,7 @@ module _ {E F : Type 0} {here : Tree E} {there : Tree F} {f : E → F} {P : E �
     look-apt (some x) = take-apt x
 
     pub next-apt : (n : ℕ) → AptNext (next here n c)
-    next-apt n = next-cases here n c AptNext (λ _. tt) (λ _ _. end-apt none) (λ _ _. look-apt (recall here (c .stretches) (place c)))
+    next-apt n = next-cases here n c AptNext (λ _. tt) (λ _ _. end-apt none) (λ _ _ _. look-apt (recall here (c .stretches) (place c)))
 
   -- So all that happens is the same.
   pub trace-same : (n : ℕ) (ask : ℕ → ℕ → ℕ) (fuel k : ℕ) (c : Config E) → Apt c

@@ -3,8 +3,11 @@ use Prim.Native.Nat.{ℕ, zero, suc, _+_, _-_, _*_, _≤_, _<_}
 use native.Mathlib.Omega.{arith}
 use native.Mathlib.Numerals.{add-one}
 use mathlib.Core.Path.{_≡_, refl}
+use mathlib.Core.Bool.{_&&_}
 use mathlib.Core.List.{List, [], _∷_}
 use mathlib.Core.Option.{some, none}
+use borrow.Author.Tests.{ltb-true, not-false}
+use lib.Dec.{ltb}
 use lib.ListN.{length, getD}
 use Rattle.rules.specs.Rules.{Event, fetched, Config, Next, finished, wants, goes, fresh, next, follow, trace}
 use Rattle.rules.specs.Lists.{anyOf}
@@ -12,7 +15,7 @@ use Rattle.rules.specs.Words.{allWords}
 use Rattle.rules.specs.Tokens.{ends, ofTokens, shortestOf, longestOf}
 use Rattle.rules.specs.Sweep.{happens, hits, Stands, Once, Ordered, Occurrences, bytesOf}
 use Rattle.rules.specs.Laws.Setting.{Setting}
-use Rattle.rules.specs.Laws.Tests.{decide}
+use Rattle.rules.specs.Laws.Tests.{decide, and-l}
 use Rattle.rules.specs.Laws.Endings.{ends-shorter}
 use Rattle.rules.specs.Laws.Words.{word-length, word-out}
 use Rattle.rules.specs.Laws.Limit.Ends.{stepsLeft, steps-enough, Whole, Finite, sweep-ends}
@@ -40,6 +43,10 @@ tokens-finite tokens S D setting = record {
       let l = word-length (r .word) (getD tokens (r .number) []) (r .of) in
       rw z (refl, omega (arith, ends-shorter (x ∷ u) (r .word) (r .passes), setting .longest (r .number) (r .inside))))
       (λ _ e. absurd (let z : _≡_ {A = ℕ} 0 1 = cc in omega arith));
+  inner = λ u e.
+      let r = word-out (λ t. ltb (length u) (length t) && ends u t) tokens (not-false _ e) in
+      let l = word-length (r .word) (getD tokens (r .number) []) (r .of) in
+      omega (arith, ltb-true (length u) (length (r .word)) (and-l _ _ (r .passes)), setting .longest (r .number) (r .inside));
   moves = shift-ge (allWords tokens) S;
 }
 

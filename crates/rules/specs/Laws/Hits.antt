@@ -1,9 +1,10 @@
 -- The hits of a round that ends come before its shift: what each of them keeps holds of all that happens then.
 use Prim.Native.Nat.{ℕ, zero, suc}
-use mathlib.Core.Path.{_≡_, sym, subst}
-use mathlib.Core.List.{List, [], _∷_, _++_, append-assoc}
+use mathlib.Core.Path.{_≡_, refl, sym, subst}
+use mathlib.Core.List.{List, [], _∷_, _++_, append-assoc, append-nil}
 use mathlib.Core.Option.{Option}
 use Rattle.rules.specs.Rules.{Tree, Config, Event, hit, shifted, hitAt, hitsUp, endRound}
+use Rattle.rules.specs.Sweep.{recalls}
 
 module _ {E : Type 0} (tree : Tree E) where
   -- the events of a round's end, and those after it
@@ -25,3 +26,8 @@ module _ {E : Type 0} (tree : Tree E) where
     pub end-before : (c : Config E) (o : Option ℕ) (rest : List (Event E)) → let c′ = endRound tree c o .config in
         P (shifted (c′ .boundary) (c′ .stretches) ∷ rest) → P (endRound tree c o .events ++ rest)
     end-before c o rest h = subst P (sym (end-events c o rest)) (hits-before (c .boundary) (c .node) (c .depth) _ h)
+
+  -- The end of a round takes nothing from a stretch.
+  pub end-recalls : (c : Config E) (o : Option ℕ) → recalls (endRound tree c o .events) ≡ []
+  end-recalls c o =
+      subst (λ es. recalls es ≡ []) (append-nil (endRound tree c o .events)) (end-before (λ es. recalls es ≡ []) (λ _ _ _ h. h) c o [] refl)

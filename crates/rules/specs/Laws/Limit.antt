@@ -1,5 +1,4 @@
--- How much the rules fetch, and how much they remember, for every image and every answer to a fetch, in any tree whose nodes
--- have sizes up to D.
+-- How much the rules fetch, look at and remember, for every image and every answer to a fetch, in any tree whose nodes have sizes up to D.
 use Prim.Native.Nat.{ℕ, zero, suc, _+_, _-_, _*_, _≤_, _<_, max, min}
 use mathlib.Core.Path.{_≡_, refl}
 use mathlib.Core.List.{List, _++_}
@@ -22,6 +21,7 @@ pub mod Span
 pub mod Count
 pub mod Events
 pub mod Ends
+pub mod Looks
 
 -- What holds of a configuration that the rules come to.
 pub record Held {E : Type 0} (size : E → ℕ) (D : ℕ) (c : Config E) : Type 0 where
@@ -180,7 +180,7 @@ module _ {E : Type 0} (tree : Tree E) (size : E → ℕ) (D S : ℕ) (finite : F
     next-fine =
         next-cases tree n c (FineNext tree size D S n c m) (λ i. i)
         (λ i _. end-fine c m i (f .held) (omega (arith, f .paid)) none)
-        (λ i j. look-fine i (omega (arith, f .held .inside)) _ refl)
+        (λ i _ j. look-fine i (omega (arith, f .held .inside)) _ refl)
 
   -- What comes next, with what happens after it.
   module _ (ask : ℕ → ℕ → ℕ) (more : ℕ → Config E → List (Event E))
@@ -201,7 +201,7 @@ module _ {E : Type 0} (tree : Tree E) (size : E → ℕ) (D S : ℕ) (finite : F
         next-cases tree n c (λ x. Ok (c .boundary) m (follow tree ask more k c x))
         (λ i. ((f .below, f .below), tt))
         (λ i _. end-ok c m i (f .held) (omega arith) (more k) (ih k m) none)
-        (λ i j. look-ok i (omega arith) _ refl)
+        (λ i _ j. look-ok i (omega arith) _ refl)
 
   pub fresh-fine : Fine size D S n (fresh tree S) 0
   fresh-fine = record {

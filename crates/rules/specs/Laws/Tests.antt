@@ -154,9 +154,9 @@ least-same p q f i (suc fuel) = cc (f i, least-same p q f (i + 1) fuel)
 pub next-cases : {E : Type 0} (tree : Tree E) (n : ℕ) (c : Config E) (P : Next E → Type 0)
     → (n < c .boundary → P finished)
     → (c .boundary ≤ n → (tree .leaf (c .node) || eqb (c .depth) (c .boundary)) ≡ true → P (goes (endRound tree c none)))
-    → (c .boundary ≤ n → c .depth ≢ c .boundary → P (look tree c (recall tree (c .stretches) (place c))))
+    → (c .boundary ≤ n → tree .leaf (c .node) ≡ false → c .depth ≢ c .boundary → P (look tree c (recall tree (c .stretches) (place c))))
     → P (next tree n c)
 next-cases tree n c P f g h =
     decide P (ltb n (c .boundary)) _ _ (λ t. f (ltb-true _ _ t)) λ t.
     let i = ltb-false n (c .boundary) t in
-    decide P (tree .leaf (c .node) || eqb (c .depth) (c .boundary)) _ _ (g i) (λ u. h i (eqb-false _ _ (or-nr (tree .leaf (c .node)) _ u)))
+    decide P (tree .leaf (c .node) || eqb (c .depth) (c .boundary)) _ _ (g i) (λ u. h i (or-nl _ _ u) (eqb-false _ _ (or-nr (tree .leaf (c .node)) _ u)))

@@ -64,6 +64,7 @@ module _ (s : Scan) (end v : ℕ) where
     due = s .due;
     stretches = s .stretches;
     supplied = s .supplied;
+    spared = s .spared;
     end = e;
     hit = v;
   }

@@ -11,7 +11,7 @@ use Rattle.tables.specs.Tables.{Tables}
 use Rattle.tables.specs.Walks.{depth}
 use Rattle.trie.specs.Answers.{tables}
 use Rattle.scan.specs.declared.Scan.{Scan}
-use Rattle.scan.specs.State.{used, countOk, imageOk, shortestOk, nodeOk, boundaryOk, suppliedOk, stretchOk, stretchesOk, dueOk, leftOk, inRange}
+use Rattle.scan.specs.State.{used, countOk, imageOk, shortestOk, nodeOk, boundaryOk, suppliedOk, sparedOk, stretchOk, stretchesOk, dueOk, leftOk, inRange}
 use Rattle.scan.specs.Ways.{paths, marks}
 use Rattle.scan.proofs.Laws.RangesDepth.{depth-same, rising-same}
 use Rattle.scan.proofs.Laws.RangesDue.{due-same}
@@ -48,10 +48,10 @@ stretch-tests t s m {a} {b} {c} ea eb ec ed ee =
     cc (and-assoc (a && b && c) (ltb (m .node) (s .count)) (eqb (depth t (m .node)) (m .right - m .left)))
 
 -- The tables count by their parents, token numbers and first children alone.
-pub range-tests : (t : Tables) (s : Scan) {a b c d e f g h i : Bool}
+pub range-tests : (t : Tables) (s : Scan) {a b c d e f g h i j : Bool}
     → countOk s ≡ a → imageOk s ≡ b → shortestOk s ≡ c → nodeOk (paths (t .parent) []) s ≡ d → boundaryOk s ≡ e → suppliedOk s ≡ f
-    → stretchesOk (paths (t .parent) []) s ≡ g → dueOk (tables [] [] [] (t .first) []) s ≡ h → leftOk (marks (t .parent) (t .token)) s ≡ i
-    → inRange t s ≡ (a && b && c && d && e && f && g && h && i)
-range-tests t s ea eb ec ed ee ef eg eh ei =
-    rw (← ea, ← eb, ← ec, ← ed, ← ee, ← ef, ← eg, ← eh, ← ei)
+    → sparedOk s ≡ g → stretchesOk (paths (t .parent) []) s ≡ h → dueOk (tables [] [] [] (t .first) []) s ≡ i
+    → leftOk (marks (t .parent) (t .token)) s ≡ j → inRange t s ≡ (a && b && c && d && e && f && g && h && i && j)
+range-tests t s ea eb ec ed ee ef eg eh ei ej =
+    rw (← ea, ← eb, ← ec, ← ed, ← ee, ← ef, ← eg, ← eh, ← ei, ← ej)
     (rw (depth-same t (s .node), rising-same t s 0 (used (s .stretches)), due-same t s, left-same t s))

@@ -48,6 +48,10 @@ due-same t s =
     let u = tables [] [] [] (t .first) [] in
     cc (wants-is (treeOf u s) (configOf s) (s .image), wants-is (treeOf t s) (configOf s) (s .image))
 
+-- No byte is due.
+pub idle-passes : (first : List ℕ) (s : Scan) → not (s .due) ≡ true → dueOk (tables [] [] [] first []) s ≡ true
+idle-passes first s e = rw e
+
 -- A byte is due: the answer, from the tests.
 pub due-tests : (first : List ℕ) (s : Scan) → s .due ≡ true → {a b d r : Bool}
     → ltb (s .image) (s .boundary) ≡ a → eqb (getD first (s .node) 0) 0 ≡ b → eqb (s .depth) (s .boundary) ≡ d

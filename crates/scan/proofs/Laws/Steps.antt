@@ -1,5 +1,5 @@
 -- What a step from a state in its ranges asks and leaves, over plain tables and numbers.
-use Prim.Native.Nat.{ℕ, _+_, _^_, _≤_, _<_}
+use Prim.Native.Nat.{ℕ, _+_, _^_, _≤_, _<_, min}
 use native.Mathlib.Omega.{arith}
 use mathlib.Core.Path.{_≡_, refl, ap, sym, _∙_}
 use mathlib.Core.List.{List, []}
@@ -7,7 +7,9 @@ use mathlib.Core.Option.{Option, some}
 use lib.ListN.{length, getD}
 use Rattle.rules.specs.Lists.{select}
 use Rattle.rules.specs.Rules.{kept, ended, endRound, taken, takeByte}
+use Rattle.rules.specs.Sweep.{recalls}
 use Rattle.rules.specs.Tokens.{shiftOf}
+use Rattle.rules.specs.Laws.Hits.{end-recalls}
 use Rattle.rules.specs.Laws.All.{All}
 use Rattle.rules.specs.Laws.Remember.{Lies}
 use Rattle.rules.specs.Laws.Exact.Shift.{shift-upto}
@@ -19,12 +21,13 @@ use Rattle.trie.specs.declared.Child.the-variants.{At, Absent}
 use Rattle.trie.specs.Laws.Chain.{along-alike}
 use Rattle.scan.specs.declared.Scan.{Scan}
 use Rattle.scan.specs.declared.Stretch.{Stretch as Slot}
-use Rattle.scan.specs.State.{configOf, treeOf, used, laid, maxStretches}
-use Rattle.scan.specs.Calls.{moved, owing, stepped}
+use Rattle.scan.specs.State.{configOf, treeOf, used, laid, maxSpared, maxStretches}
+use Rattle.scan.specs.Calls.{sparing, moved, owing, stepped}
 use Rattle.scan.specs.Ways.{marks, Readable, Climbs, Marked}
 use Rattle.scan.specs.Memory.{Ends, rememberBy}
 use Rattle.scan.specs.Steps.{Stepping, Ending}
 use Rattle.scan.specs.Laws.Slots.{slots-laid, slots-five}
+use Rattle.scan.specs.Laws.Within.{Counts}
 use Rattle.scan.specs.Laws.Stay.{first-hit}
 use Rattle.scan.specs.Laws.Ways.{depth-alike, carrier-alike, unbroken-readable, unbroken-marked}
 use Rattle.scan.specs.Laws.Memory.{shift-by, remember-by, within-climbs, within-lies, within-ends}
@@ -79,9 +82,14 @@ standing s b v d l = record {
   due = s .due;
   stretches = l;
   supplied = s .supplied;
+  spared = s .spared;
   end = s .end;
   hit = s .hit;
 }
+
+-- Where nothing is taken from a stretch the count stays.
+none-spared : (s : Scan) → Counts s → s ≡ sparing s 0
+none-spared s few = let e : min maxSpared (s .spared + 0) ≡ s .spared = omega arith in rw e
 
 -- The state after a round has ended: rules 4 to 6,
 stands-ended : (parent label token first next : List ℕ) (s : Scan) (o : Option ℕ) (by : ℕ) (slots : List Slot)
@@ -106,8 +114,11 @@ ended-state {parent} {label} {token} {s} e o by slots v p q h r is first next =
     let w = e .goes .within in
     let sized = depth-alike t (whole e) refl (s .node) ∙ w .held .sized in
     let hit = first-hit {t = t} (record { size = f .size; root-up = f .root-up; ups = f .ups }) (s .shortest) (configOf s) (w .node) sized o in
+    let spared = none-spared s (e .goes .few) ∙ ap (λ ps. sparing s (length ps)) (sym (end-recalls (treeOf t s) (configOf s) o)) in
+    let to = endRound (treeOf t s) (configOf s) o in
     is ∙ ap (λ u. owing u (s .boundary) v) (stands-ended parent label token first next s o by slots p q)
-    ∙ ap (owing (moved s (endRound (treeOf t s) (configOf s) o .config)) (s .boundary))
+    ∙ ap (λ u. owing (moved u (to .config)) (s .boundary) v) spared
+    ∙ ap (owing (moved (sparing s (length (recalls (to .events)))) (to .config)) (s .boundary))
     (h ∙ carrier-alike (marks parent token) t refl refl (s .node) ∙ sym hit)
 
 -- the state at another node, one deeper
@@ -122,6 +133,7 @@ down s v l end hit = record {
   due = s .due;
   stretches = l;
   supplied = s .supplied;
+  spared = s .spared;
   end = end;
   hit = hit;
 }
@@ -149,4 +161,5 @@ module _ (parent label token first next : List ℕ) (s : Scan) (x : ℕ) (k : Ch
       let l = laid maxStretches (used (s .stretches)) in
       ap (λ l. down s v l (s .end) (s .hit)) (slots-laid s (g .goes .slots))
       ∙ ap (λ end. down s v l end (s .hit)) (g .goes .left .none (g .none)) ∙ ap (down s v l 0) (g .none)
+      ∙ ap (λ u. down u v l 0 0) (none-spared s (g .goes .few))
       ∙ ap (λ o. stepped lent s (taken (treeOf lent s) (configOf s) x o)) (sym (child-is (At v) e))

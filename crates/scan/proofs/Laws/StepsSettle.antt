@@ -1,19 +1,20 @@
 -- A call that runs on: the state it stands at, and that the rest of the run from there is the whole run.
-use Prim.Native.Nat.{ℕ, zero, suc, _+_, _*_, _<_}
+use Prim.Native.Nat.{ℕ, zero, suc, _+_, _*_, _<_, min}
 use native.Mathlib.Omega.{arith}
 use mathlib.Core.Path.{_≡_, refl, ap, sym, subst, _∙_}
 use mathlib.Core.Option.{none}
-use lib.ListN.{getD}
+use lib.ListN.{length, getD}
 use Rattle.book.specs.Book.{maxBody}
-use Rattle.rules.specs.Rules.{Step, Next, finished, wants, goes, endRound, takeByte, next}
+use Rattle.rules.specs.Rules.{Step, Next, finished, wants, goes, place, recalled, endRound, after, takeByte, next}
+use Rattle.rules.specs.Sweep.{recalls}
 use Rattle.rules.specs.Laws.Limit.Ends.{stepsLeft}
 use Rattle.tables.specs.Tables.{Tables}
 use Rattle.scan.specs.declared.Scan.{Scan}
 use Rattle.scan.specs.declared.Answer.the-variants.{Fetch, Done}
 use Rattle.scan.specs.declared.Stepped.{Stepped as Result}
 use Rattle.scan.specs.declared.steps.Move.the-variants.{Finished, Wants, End, Take}
-use Rattle.scan.specs.State.{configOf, treeOf}
-use Rattle.scan.specs.Calls.{found, Stepped, awaiting, owing, told, stepped, settle, enough}
+use Rattle.scan.specs.State.{configOf, treeOf, maxSpared}
+use Rattle.scan.specs.Calls.{found, Stepped, sparing, awaiting, owing, told, stepped, settle, enough}
 use Rattle.scan.specs.Results.{steppedOf}
 use Rattle.scan.specs.Ways.{marks, Marked}
 use Rattle.scan.specs.Steps.{Stepping, Chosen}
@@ -37,6 +38,13 @@ begins g = record { goes = g; image = refl; rest = refl }
 
 abbrev Answers : Tables → Scan → Result → Type 0
 Answers t s a = steppedOf a ≡ settle t (enough s) s
+
+-- A byte from a stretch is counted before the step that takes it, or with it.
+spared-first : (t : Tables) (s : Scan) (p : ℕ) (w : Step ℕ) → stepped t (sparing s 1) w ≡ stepped t s (after (recalled p) w)
+spared-first t s p w =
+    let k = length (recalls (w .events)) in
+    let e : min maxSpared (min maxSpared (s .spared + 1) + k) ≡ min maxSpared (s .spared + suc k) = omega arith in
+    rw e
 
 module _ {t : Tables} {s u : Scan} (runs : Runs t s u) where
   -- The run is a step, and the run from there.
@@ -65,9 +73,6 @@ module _ {t : Tables} {s u : Scan} (runs : Runs t s u) where
 
   -- No hit is left.
   module _ (quiet : u .hit ≡ 0) where
-    pub runs-stepping : Stepping t u
-    runs-stepping = record { goes = runs .goes; none = quiet }
-
     pub runs-over : Chosen t u Finished → Answers t s (record { state = u; answer = Done })
     runs-over is = whole 0 quiet finished is
 
@@ -90,5 +95,14 @@ module _ {t : Tables} {s u : Scan} (runs : Runs t s u) where
     pub runs-ends : Chosen t u End → (r : Scan) → r ≡ stepped t u (endRound (treeOf t u) (configOf u) none) → Onwards t s u r
     runs-ends is r to = runs-on _ is r to
 
-    pub runs-takes : (x : ℕ) → Chosen t u (Take x) → (r : Scan) → r ≡ stepped t u (takeByte (treeOf t u) (configOf u) x) → Onwards t s u r
-    runs-takes x is r to = runs-on _ is r to
+    -- A byte from a stretch is counted, and then taken.
+    pub runs-stepping : Stepping t (sparing u 1)
+    runs-stepping =
+        let g = runs .goes in
+        record {
+          goes = record { ready = g .ready; few = (g .few .0, omega arith); slots = g .slots; within = g .within; left = g .left; idle = g .idle };
+          none = quiet;
+        }
+
+    pub runs-takes : (x : ℕ) → Chosen t u (Take x) → (r : Scan) → r ≡ stepped t (sparing u 1) (takeByte (treeOf t u) (configOf u) x) → Onwards t s u r
+    runs-takes x is r to = runs-on _ is r (to ∙ spared-first t u (place (configOf u)) (takeByte (treeOf t u) (configOf u) x))

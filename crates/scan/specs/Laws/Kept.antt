@@ -4,8 +4,10 @@ use native.Mathlib.Omega.{arith}
 use mathlib.Core.Path.{_≡_, refl, ap, subst, _∙_}
 use mathlib.Core.Bool.{Bool, true, false, _||_, not}
 use mathlib.Core.Option.{Option, some, none}
+use lib.ListN.{length}
 use Rattle.book.specs.Book.{maxBody}
 use Rattle.rules.specs.Rules.{Step, Next, finished, wants, goes, takeByte, next}
+use Rattle.rules.specs.Sweep.{recalls}
 use Rattle.rules.specs.Laws.Limit.Ends.{stepsLeft}
 use Rattle.rules.specs.Laws.Tests.{clash}
 use Rattle.tables.specs.Tables.{Tables}
@@ -13,9 +15,9 @@ use Rattle.tables.specs.Walks.{carrier}
 use Rattle.tables.specs.Laws.Shape.{up}
 use Rattle.tables.specs.Broken.{broken}
 use Rattle.scan.specs.declared.Scan.{Scan}
-use Rattle.scan.specs.State.{configOf, treeOf, wantsByte, slotsOk, inRange, maxSupplied}
-use Rattle.scan.specs.Calls.{Answer, refused, counted, awaiting, told, stepped, settle, enough, agree, judged, carryOn, fed, supply}
-use Rattle.scan.specs.Laws.Within.{Ready, Within, LeftFor, left-out, in-range, ready, slots, counts, dues, lefts, within, owing-left, owing-range}
+use Rattle.scan.specs.State.{configOf, treeOf, wantsByte, slotsOk, inRange}
+use Rattle.scan.specs.Calls.{Answer, refused, counted, sparing, awaiting, told, stepped, settle, enough, agree, judged, carryOn, fed, supply}
+use Rattle.scan.specs.Laws.Within.{Ready, Counts, Within, LeftFor, left-out, in-range, ready, slots, counts, dues, lefts, within, owing-left, owing-range}
 use Rattle.scan.specs.Laws.Stay.{WithinStep, WithinNext, next-within}
 use Rattle.scan.specs.Laws.Settle.{enough-steps, above-pending, onLeft, onJudged}
 
@@ -35,7 +37,7 @@ NextFor t s x = WithinNext t (s .count) (s .image) (s .shortest) (configOf s) x
 -- A state in its ranges, over tables that are a tree, that waits for no byte.
 pub record Goes (t : Tables) (s : Scan) : Type 0 where
   pub ready : ReadyFor t s
-  pub few : s .supplied ≤ maxSupplied
+  pub few : Counts s
   pub slots : slotsOk s ≡ true
   pub within : WithinFor t s
   pub left : LeftFor t s
@@ -47,12 +49,19 @@ goes-range t s g = in-range t s (g .ready) (g .few) (g .slots) (g .within) (cc (
 
 -- and so is what a step leads to,
 pub step-goes : (t : Tables) (s : Scan) → Goes t s → (w : Step ℕ) → StepFor t s w → Goes t (stepped t s w)
-step-goes t s g w h = goes (owing-range t s (g .ready) (g .few) (w .config) (h .within) (g .idle) (s .boundary) _ (h .leaves .pending))
+step-goes t s g w h =
+    goes (owing-range t (sparing s k) (g .ready) few (w .config) (h .within) (g .idle) (s .boundary) _ (h .leaves .pending))
   where
+    k : ℕ
+    k = length (recalls (w .events))
+
+    few : Counts (sparing s k)
+    few = (g .few .0, omega arith)
+
     goes : inRange t (stepped t s w) ≡ true → Goes t (stepped t s w)
     goes e = record {
       ready = g .ready;
-      few = g .few;
+      few = few;
       slots = slots t (stepped t s w) e;
       within = within t (stepped t s w) e (g .ready .tree);
       left = left-out t (stepped t s w) (lefts t (stepped t s w) e);
@@ -160,7 +169,7 @@ module _ (t : Tables) (s : Scan) where
         let l = left-out t s (lefts t s (a .1)) in
         record {
           ready = r;
-          few = omega arith;
+          few = (omega arith, counts t s (a .1) .1);
           slots = slots t s (a .1);
           within = within t s (a .1) (r .tree);
           left = record { none = l .none; some = l .some; idle = λ _. refl };

@@ -17,13 +17,13 @@ use Rattle.tables.specs.Tables.{Tables}
 use Rattle.tables.specs.Walks.{ending, ofTables}
 use Rattle.scan.specs.Calls.{refused, outOfTurn, judged}
 use Rattle.scan.specs.declared.Scan.{Scan}
-use Rattle.scan.specs.State.{configOf, laid, maxStretches, wantsByte, inRange, maxSupplied}
+use Rattle.scan.specs.State.{configOf, laid, maxStretches, wantsByte, inRange, maxSupplied, maxSpared}
 use Rattle.scan.specs.Laws.Walk.{Given, given-ready, Sat, sat-within}
 use Rattle.scan.specs.Laws.Within.{Within, Left, moved-config, moved-slots, in-range}
 
--- The state after k bytes, with hits at this end left, that of node v next.
-abbrev pub stateAt : ℕ → ℕ → ℕ → Config ℕ → Bool → ℕ → ℕ → ℕ → Scan
-stateAt n S count c due k end v = record {
+-- The state after k bytes were supplied and m taken from stretches, with hits at this end left, that of node v next.
+abbrev pub stateAt : ℕ → ℕ → ℕ → Config ℕ → Bool → ℕ → ℕ → ℕ → ℕ → Scan
+stateAt n S count c due k m end v = record {
   image = n;
   shortest = S;
   count = count;
@@ -33,6 +33,7 @@ stateAt n S count c due k end v = record {
   due = due;
   stretches = laid maxStretches (c .stretches);
   supplied = k;
+  spared = m;
   end = end;
   hit = v;
 }
@@ -54,23 +55,23 @@ module _ {tokens : List (List ℕ)} {S D : ℕ} {t : Tables} {count n : ℕ} (gi
   pub sat-cap : (c : Config ℕ) (k : ℕ) → Sat given c k → k < maxSupplied
   sat-cap c k s = omega (arith, sat-below c k s, limit-cap n D (given .long) (given .short) (given .image))
 
-  module _ (c : Config ℕ) (due : Bool) (k end v : ℕ) (s : Sat given c k) where
+  module _ (c : Config ℕ) (due : Bool) (k m end v : ℕ) (s : Sat given c k) where
     -- The state stands at its configuration.
-    pub stands : configOf (stateAt n S count c due k end v) ≡ c
-    stands = moved-config t (stateAt n S count c due k end v) c (sat-within given c k s)
+    pub stands : configOf (stateAt n S count c due k m end v) ≡ c
+    stands = moved-config t (stateAt n S count c due k m end v) c (sat-within given c k s)
 
-    module _ (w : (not due || wantsByte (next (ofTables t count S) n c)) ≡ true) (l : Left t count n S c due end v) where
-      sat-range : inRange t (stateAt n S count c due k end v) ≡ true
+    module _ (few : m ≤ maxSpared) (w : (not due || wantsByte (next (ofTables t count S) n c)) ≡ true) (l : Left t count n S c due end v) where
+      sat-range : inRange t (stateAt n S count c due k m end v) ≡ true
       sat-range =
-          let st = stateAt n S count c due k end v in
+          let st = stateAt n S count c due k m end v in
           let is = sym stands in
-          in-range t st (given-ready given) (omega (arith, sat-cap c k s)) (moved-slots t st c (sat-within given c k s))
+          in-range t st (given-ready given) (omega (arith, sat-cap c k s), few) (moved-slots t st c (sat-within given c k s))
           (subst (Within t count n) is (sat-within given c k s))
           (subst (λ c. (not due || wantsByte (next (ofTables t count S) n c)) ≡ true) is w)
           (subst (λ c. Left t count n S c due end v) is l)
 
       -- A call is judged by its turn alone.
       pub judged-turn : (turn : Bool)
-          → judged t (stateAt n S count c due k end v) turn
-          ≡ elim (outOfTurn (stateAt n S count c due k end v) turn) [ true ↦ some (refused 11 0) | false ↦ none ]
+          → judged t (stateAt n S count c due k m end v) turn
+          ≡ elim (outOfTurn (stateAt n S count c due k m end v) turn) [ true ↦ some (refused 11 0) | false ↦ none ]
       judged-turn turn = cc (given .represents .fine, sat-range)

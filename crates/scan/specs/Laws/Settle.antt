@@ -1,4 +1,5 @@
--- One call in turn: it answers the next of what the rules say, and comes to a state for what they say after that.
+-- One call in turn: it answers the next of what the rules say, bills what they took from stretches, and comes to a state for what they say
+-- after that.
 use Prim.Native.Nat.{ℕ, zero, suc, _+_, _-_, _*_, _≤_, _<_, min}
 use native.Mathlib.Omega.{arith}
 use native.Mathlib.Nat.{mul-le-mul, lt-of-not-le}
@@ -7,9 +8,10 @@ use mathlib.Core.Bool.{Bool, true, false}
 use mathlib.Core.List.{List, [], _∷_, _++_}
 use mathlib.Core.Option.{Option, some, none}
 use borrow.Author.Tests.{lt-ltb}
-use lib.ListN.{getD}
+use lib.ListN.{length, getD}
 use Rattle.book.specs.Book.{maxBody}
 use Rattle.rules.specs.Rules.{Config, Event, Step, Next, finished, wants, goes, hitAt, hitsUp, takeByte, next, follow, trace}
+use Rattle.rules.specs.Sweep.{recalls}
 use Rattle.rules.specs.Laws.Limit.Ends.{stepsLeft}
 use Rattle.tables.specs.Tables.{Tables}
 use Rattle.tables.specs.Walks.{depth, carrier, ofTables}
@@ -17,8 +19,9 @@ use Rattle.tables.specs.Laws.Shape.{up}
 use Rattle.tables.specs.Laws.Hits.{hitsFrom, deeper, hits-climb, Carries, carrier-carries}
 use Rattle.scan.specs.Calls.{Answer, fetch, found, over, refused, Stepped, counted, awaiting, told, firstHit, stepped, settle, enough, carryOn, supply}
 use Rattle.scan.specs.declared.Scan.{Scan}
-use Rattle.scan.specs.State.{configOf, treeOf, wantsByte, maxSupplied}
-use Rattle.scan.specs.Answers.{answers, isRefused, first, later}
+use Rattle.scan.specs.State.{configOf, treeOf, wantsByte, maxSupplied, maxSpared}
+use Rattle.scan.specs.Answers.{isRefused, first, later}
+use Rattle.scan.specs.Laws.Bill.{Plan, plan, says, onward, capped, capped-more}
 use Rattle.scan.specs.Laws.Within.{Ready, Pending, Left, owing-left}
 use Rattle.scan.specs.Laws.Walk.{Given, given-ready, Sat, SatStep, SatNext, next-sat}
 use Rattle.scan.specs.Laws.Range.{stateAt, sat-cap, stands, judged-turn}
@@ -81,15 +84,16 @@ module _ {t : Tables} {count n S : ℕ} (ready : Ready t count n S) {c : Config 
   above-carries : Carries t count (ready .tree .falling) S end (up t v) above
   above-carries = carrier-carries t count (ready .tree .falling) S end (up t v) (omega (arith, falls, p .below))
 
-  pub first-told : (rest : List (Event ℕ)) → let tree = ofTables t count S in
-      answers (hitsUp tree end v (depth t v) ++ rest) ≡ found end (getD (t .token) v 0) ∷ answers (hitsUp tree end above (depth t above) ++ rest)
-  first-told rest =
+  pub first-told : (m : ℕ) (rest : List (Event ℕ)) → let tree = ofTables t count S in
+      plan m (hitsUp tree end v (depth t v) ++ rest)
+      ≡ says (found end (getD (t .token) v 0)) m (plan m (hitsUp tree end above (depth t above) ++ rest))
+  first-told m rest =
       let f = ready .tree .falling in
-      ap (λ es. answers (es ++ rest)) (hits-climb t count f S end v a (p .below))
+      ap (λ es. plan m (es ++ rest)) (hits-climb t count f S end v a (p .below))
       ∙ go (getD (t .token) v 0) (p .marked) (hitsFrom t count f S end (up t v))
-      ∙ ap (λ es. found end (getD (t .token) v 0) ∷ answers (es ++ rest)) (above-carries .same)
+      ∙ ap (λ es. says (found end (getD (t .token) v 0)) m (plan m (es ++ rest))) (above-carries .same)
     where
-      go : (i : ℕ) → 1 ≤ i → (es : List (Event ℕ)) → answers ((hitAt end i ++ es) ++ rest) ≡ found end i ∷ answers (es ++ rest)
+      go : (i : ℕ) → 1 ≤ i → (es : List (Event ℕ)) → plan m ((hitAt end i ++ es) ++ rest) ≡ says (found end i) m (plan m (es ++ rest))
       go zero h es = absurd (omega arith)
       go (suc i) h es = refl
 
@@ -114,47 +118,47 @@ module _ {tokens : List (List ℕ)} {S D : ℕ} {t : Tables} {count n : ℕ} (gi
   abbrev fed : ℕ → ℕ → Config ℕ → Step ℕ
   fed k at c = takeByte (ofTables t count S) c (ask k at)
 
-  -- The answers to come where the hits of node v with this end are left.
-  abbrev pub left : ℕ → ℕ → List (Event ℕ) → List Answer
-  left end v rest = answers (hitsUp (ofTables t count S) end v (depth t v) ++ rest)
+  -- What is to come where the hits of node v with this end are left, and m bytes were taken from stretches.
+  abbrev pub left : ℕ → ℕ → ℕ → List (Event ℕ) → Plan
+  left m end v rest = plan m (hitsUp (ofTables t count S) end v (depth t v) ++ rest)
 
-  -- The answers to come at a configuration: those of the hits that are left, and then; if a byte is due, those after it is taken.
-  abbrev pub Todo : ℕ → Bool → Config ℕ → ℕ → ℕ → List Answer → Type 0
-  Todo k false c end v todo = (fuel : ℕ) × Enough n D c fuel × (todo ≡ left end v (run fuel k c))
-  Todo k true c end v todo =
+  -- What is to come at a configuration: the hits that are left, and then; if a byte is due, what comes after it is taken.
+  abbrev pub Todo : ℕ → ℕ → Bool → Config ℕ → ℕ → ℕ → Plan → Type 0
+  Todo k m false c end v todo = (fuel : ℕ) × Enough n D c fuel × (todo ≡ left m end v (run fuel k c))
+  Todo k m true c end v todo =
       (at : ℕ) × (fuel : ℕ) × (next (ofTables t count S) n c ≡ wants at)
-      × Enough n D (fed k at c .config) fuel × (todo ≡ answers (fed k at c .events ++ run fuel (k + 1) (fed k at c .config)))
+      × Enough n D (fed k at c .config) fuel × (todo ≡ plan m (fed k at c .events ++ run fuel (k + 1) (fed k at c .config)))
 
   -- An answer that is no place to fetch wants none.
   none-wanted : (a : Answer) (c : Config ℕ) → isFetch a ≡ false → (p : ℕ) → a ≡ fetch p → next (ofTables t count S) n c ≡ wants p
   none-wanted a c e p q = absurd (let z : _≡_ {A = ℕ} 0 1 = cc in omega arith)
 
-  -- A call that leaves k bytes taken answers the first of `todo`, and the others are still to come.
-  pub record Settled (k : ℕ) (todo : List Answer) (r : Stepped) : Type 0 where
+  -- A call that leaves k bytes taken answers the first of `todo` and is billed so, and the others are still to come.
+  pub record Settled (k : ℕ) (todo : Plan) (r : Stepped) : Type 0 where
     pub config : Config ℕ
     pub due : Bool
     pub end : ℕ
     pub hit : ℕ
-    pub is : r ≡ record { state = stateAt n S count config due k end hit; answer = first todo }
+    pub is : r ≡ record { state = stateAt n S count config due k (capped (todo .1 0)) end hit; answer = first (todo .0) }
     pub sat : Sat given config k
     pub owes : Left t count n S config due end hit
-    pub rest : Todo k due config end hit (later todo)
-    pub turn : isFetch (first todo) ≡ due
-    pub wanted : (p : ℕ) → first todo ≡ fetch p → next (ofTables t count S) n config ≡ wants p
+    pub rest : Todo k (todo .1 0) due config end hit (onward todo)
+    pub turn : isFetch (first (todo .0)) ≡ due
+    pub wanted : (p : ℕ) → first (todo .0) ≡ fetch p → next (ofTables t count S) n config ≡ wants p
 
   module _ (k : ℕ) where
     -- Going on from states with steps enough settles.
     abbrev Settles : ℕ → Type 0
-    Settles fuel = (f : ℕ) (c : Config ℕ) (end v : ℕ) → Sat given c k → Left t count n S c false end v → 1 ≤ fuel → Enough n D c fuel
-        → Enough n D c f → Settled k (left end v (run f k c)) (settle t fuel (stateAt n S count c false k end v))
+    Settles fuel = (m f : ℕ) (c : Config ℕ) (end v : ℕ) → Sat given c k → Left t count n S c false end v → 1 ≤ fuel → Enough n D c fuel
+        → Enough n D c f → Settled k (left m end v (run f k c)) (settle t fuel (stateAt n S count c false k (capped m) end v))
 
     -- A hit that is left is answered.
-    told-settles : (f : ℕ) (c : Config ℕ) (end v : ℕ) → Sat given c k → 0 < v → Pending t count n S c end v → Enough n D c f
-        → Settled k (left end v (run f k c)) (told t (stateAt n S count c false k end v))
-    told-settles f c end v s a p h =
+    told-settles : (m f : ℕ) (c : Config ℕ) (end v : ℕ) → Sat given c k → 0 < v → Pending t count n S c end v → Enough n D c f
+        → Settled k (left m end v (run f k c)) (told t (stateAt n S count c false k (capped m) end v))
+    told-settles m f c end v s a p h =
         let ready = given-ready given in
         let w = carrier t (up t v) in
-        subst (λ todo. Settled k todo (told t (stateAt n S count c false k end v))) (sym (first-told ready a p (run f k c)))
+        subst (λ todo. Settled k todo (told t (stateAt n S count c false k (capped m) end v))) (sym (first-told ready a p m (run f k c)))
         (record {
           config = c;
           due = false;
@@ -163,17 +167,17 @@ module _ {tokens : List (List ℕ)} {S D : ℕ} {t : Tables} {count n : ℕ} (gi
           is = refl;
           sat = s;
           owes = owing-left t count n S c false refl end w (above-pending ready a p);
-          rest = (f, h, ap (λ es. answers (es ++ run f k c)) (sym (owing-hits t count S end w)));
+          rest = (f, h, ap (λ es. plan m (es ++ run f k c)) (sym (owing-hits t count S end w)));
           turn = refl;
           wanted = none-wanted (found end (getD (t .token) v 0)) c refl;
         })
 
     -- The boundary has passed the image, and no hit is left.
-    over-settles : (c : Config ℕ) (end : ℕ) → Sat given c k → Left t count n S c false end 0 → n < c .boundary
+    over-settles : (m : ℕ) (c : Config ℕ) (end : ℕ) → Sat given c k → Left t count n S c false end 0 → n < c .boundary
         → (todo : List Answer) → first todo ≡ over → later todo ≡ []
-        → Settled k todo (record { state = stateAt n S count c false k end 0; answer = over })
+        → Settled k (todo, λ i. m) (record { state = stateAt n S count c false k (capped m) end 0; answer = over })
     unfolding trace
-    over-settles c end s l h todo e f = record {
+    over-settles m c end s l h todo e f = record {
       config = c;
       due = false;
       end = end;
@@ -181,27 +185,30 @@ module _ {tokens : List (List ℕ)} {S D : ℕ} {t : Tables} {count n : ℕ} (gi
       is = cc e;
       sat = s;
       owes = l;
-      rest = (0, (λ i. absurd (omega arith)), f);
+      rest = (0, (λ i. absurd (omega arith)), ap (λ l. (l, λ i. m)) f);
       turn = ap isFetch e;
       wanted = none-wanted (first todo) c (ap isFetch e);
     }
 
     -- After a step its hits are left.
-    step-settles : (fuel f : ℕ) (c : Config ℕ) (end : ℕ) (w : Step ℕ) → SatStep given c k w → Settles fuel
+    step-settles : (m fuel f : ℕ) (c : Config ℕ) (end : ℕ) (w : Step ℕ) → SatStep given c k w → Settles fuel
         → 1 ≤ fuel → Enough n D (w .config) fuel → Enough n D (w .config) f
-        → Settled k (answers (w .events ++ run f k (w .config))) (settle t fuel (stepped t (stateAt n S count c false k end 0) w))
-    step-settles fuel f c end w s ih l g h =
+        → Settled k (plan m (w .events ++ run f k (w .config))) (settle t fuel (stepped t (stateAt n S count c false k (capped m) end 0) w))
+    step-settles m fuel f c end w s ih l g h =
         let v = firstHit t (c .node) (w .events) in
-        subst (λ todo. Settled k todo (settle t fuel (stepped t (stateAt n S count c false k end 0) w)))
-        (ap (λ es. answers (es ++ run f k (w .config))) (owing-hits t count S (c .boundary) v) ∙ sym (s .leaves .heard (run f k (w .config))))
-        (ih f (w .config) (elim v [ zero ↦ 0 | suc u ↦ c .boundary ]) v (s .sat)
-        (owing-left t count n S (w .config) false refl (c .boundary) v (s .leaves .pending)) l g h)
+        let to : ℕ = elim v [ zero ↦ 0 | suc u ↦ c .boundary ] in
+        let bill = m + length (recalls (w .events)) in
+        let todo = plan m (w .events ++ run f k (w .config)) in
+        subst (λ x. Settled k todo (settle t fuel (stateAt n S count (w .config) false k x to v))) (sym (capped-more m (length (recalls (w .events)))))
+        (subst (λ todo. Settled k todo (settle t fuel (stateAt n S count (w .config) false k (capped bill) to v)))
+        (ap (λ es. plan bill (es ++ run f k (w .config))) (owing-hits t count S (c .boundary) v) ∙ sym (s .leaves .heard m (run f k (w .config))))
+        (ih bill f (w .config) to v (s .sat) (owing-left t count n S (w .config) false refl (c .boundary) v (s .leaves .pending)) l g h))
 
-    next-settles : (fuel f : ℕ) (c : Config ℕ) (end : ℕ) → Sat given c k → Left t count n S c false end 0 → Settles fuel
+    next-settles : (m fuel f : ℕ) (c : Config ℕ) (end : ℕ) → Sat given c k → Left t count n S c false end 0 → Settles fuel
         → Enough n D c (suc fuel) → Enough n D c (suc f) → (x : Next ℕ) → next (ofTables t count S) n c ≡ x → SatNext given c k x
-        → Settled k (answers (follow (ofTables t count S) ask (run f) k c x)) (onNext t fuel (stateAt n S count c false k end 0) x)
-    next-settles fuel f c end s l ih g h finished e x = over-settles c end s l x (over ∷ []) refl refl
-    next-settles fuel f c end s l ih g h (wants at) e x =
+        → Settled k (plan m (follow (ofTables t count S) ask (run f) k c x)) (onNext t fuel (stateAt n S count c false k (capped m) end 0) x)
+    next-settles m fuel f c end s l ih g h finished e x = over-settles m c end s l x (over ∷ []) refl refl
+    next-settles m fuel f c end s l ih g h (wants at) e x =
         let w = x (ask k at) in
         record {
           config = c;
@@ -215,65 +222,68 @@ module _ {tokens : List (List ℕ)} {S D : ℕ} {t : Tables} {count n : ℕ} (gi
           turn = refl;
           wanted = λ p q. let z : at ≡ p = cc in cc;
         }
-    next-settles fuel f c end s l ih g h (goes w) e x =
+    next-settles m fuel f c end s l ih g h (goes w) e x =
         let a = g (x .early) in
         let b = h (x .early) in
-        step-settles fuel f c end w x ih (omega (arith, x .less)) (λ _. omega (arith, x .less)) (λ _. omega (arith, x .less))
+        step-settles m fuel f c end w x ih (omega (arith, x .less)) (λ _. omega (arith, x .less)) (λ _. omega (arith, x .less))
 
     settle-settles : (fuel : ℕ) → Settles fuel
     unfolding trace
-    settle-settles zero f c end v s l i g h = absurd (omega arith)
-    settle-settles (suc fuel) f c end (suc v) s l i g h = told-settles f c end (suc v) s (omega arith) (l .some (omega arith)) h
-    settle-settles (suc fuel) zero c end zero s l i g h =
+    settle-settles zero m f c end v s l i g h = absurd (omega arith)
+    settle-settles (suc fuel) m f c end (suc v) s l i g h = told-settles m f c end (suc v) s (omega arith) (l .some (omega arith)) h
+    settle-settles (suc fuel) m zero c end zero s l i g h =
         let p : n < c .boundary = lt-of-not-le (λ i. omega (arith, h i)) in
-        let done : next (ofTables t count S) n (configOf (stateAt n S count c false k end 0)) ≡ finished = cc (lt-ltb n (c .boundary) p) in
-        subst (λ x. Settled k [] (onNext t fuel (stateAt n S count c false k end 0) x)) (sym done) (over-settles c end s l p [] refl refl)
-    settle-settles (suc fuel) (suc f) c end zero s l i g h =
-        subst (λ d. Settled k (answers (run (suc f) k c)) (onNext t fuel (stateAt n S count c false k end 0) (next (ofTables t count S) n d)))
-        (sym (stands given c false k end 0 s))
-        (next-settles fuel f c end s l (settle-settles fuel) g h (next (ofTables t count S) n c) refl (next-sat given c k s))
+        let done : next (ofTables t count S) n (configOf (stateAt n S count c false k (capped m) end 0)) ≡ finished = cc (lt-ltb n (c .boundary) p) in
+        subst (λ x. Settled k ([], λ i. m) (onNext t fuel (stateAt n S count c false k (capped m) end 0) x)) (sym done) (over-settles m c end s l p [] refl refl)
+    settle-settles (suc fuel) m (suc f) c end zero s l i g h =
+        subst (λ d. Settled k (plan m (run (suc f) k c)) (onNext t fuel (stateAt n S count c false k (capped m) end 0) (next (ofTables t count S) n d)))
+        (sym (stands given c false k (capped m) end 0 s))
+        (next-settles m fuel f c end s l (settle-settles fuel) g h (next (ofTables t count S) n c) refl (next-sat given c k s))
 
-  module _ (c : Config ℕ) (k end v : ℕ) (s : Sat given c k) where
+  module _ (c : Config ℕ) (k m end v : ℕ) (s : Sat given c k) where
+    few : capped m ≤ maxSpared
+    few = omega arith
+
     -- A call out of turn changes nothing.
-    pub carry-refused : (todo : List Answer) → Todo k true c end v todo → Left t count n S c true end v
-        → carryOn t (stateAt n S count c true k end v) ≡ record { state = stateAt n S count c true k end v; answer = refused 11 0 }
-    carry-refused todo h l = ap (onJudged _ _) (judged-turn given c true k end v s (ap wantsByte (h .2)) l false)
+    pub carry-refused : (todo : Plan) → Todo k m true c end v todo → Left t count n S c true end v
+        → carryOn t (stateAt n S count c true k (capped m) end v) ≡ record { state = stateAt n S count c true k (capped m) end v; answer = refused 11 0 }
+    carry-refused todo h l = ap (onJudged _ _) (judged-turn given c true k (capped m) end v s few (ap wantsByte (h .2)) l false)
 
     pub supply-refused : (x : ℕ) → Left t count n S c false end v
-        → supply t (stateAt n S count c false k end v) x ≡ record { state = stateAt n S count c false k end v; answer = refused 11 0 }
-    supply-refused x l = ap (onJudged _ _) (judged-turn given c false k end v s refl l true)
+        → supply t (stateAt n S count c false k (capped m) end v) x ≡ record { state = stateAt n S count c false k (capped m) end v; answer = refused 11 0 }
+    supply-refused x l = ap (onJudged _ _) (judged-turn given c false k (capped m) end v s few refl l true)
 
     -- A call in turn settles.
-    pub carry-settles : (todo : List Answer) → Todo k false c end v todo → Left t count n S c false end v
-        → Settled k todo (carryOn t (stateAt n S count c false k end v))
+    pub carry-settles : (todo : Plan) → Todo k m false c end v todo → Left t count n S c false end v
+        → Settled k todo (carryOn t (stateAt n S count c false k (capped m) end v))
     carry-settles todo h l =
-        let st = stateAt n S count c false k end v in
-        let is : carryOn t st ≡ settle t (enough st) st = ap (onJudged _ _) (judged-turn given c false k end v s refl l false) in
+        let st = stateAt n S count c false k (capped m) end v in
+        let is : carryOn t st ≡ settle t (enough st) st = ap (onJudged _ _) (judged-turn given c false k (capped m) end v s few refl l false) in
         subst (Settled k todo) (sym is) (subst (λ todo. Settled k todo (settle t (enough st) st)) (sym (h .2))
-        (settle-settles k (enough st) (h .0) c end v s l (omega arith) (enough-steps n D (given .short) c) (h .1)))
+        (settle-settles k (enough st) m (h .0) c end v s l (omega arith) (enough-steps n D (given .short) c) (h .1)))
 
-    module _ (todo : List Answer) (h : Todo k true c end v todo) (l : Left t count n S c true end v) where
+    module _ (todo : Plan) (h : Todo k m true c end v todo) (l : Left t count n S c true end v) where
       -- the state that the byte leads to
       abbrev fedTo : ℕ → Scan
-      fedTo x = stepped t (stateAt n S count c false (k + 1) end v) (takeByte (ofTables t count S) c x)
+      fedTo x = stepped t (stateAt n S count c false (k + 1) (capped m) end v) (takeByte (ofTables t count S) c x)
 
-      supply-is : (x : ℕ) → supply t (stateAt n S count c true k end v) x ≡ settle t ((n + 2) * (maxBody + 2)) (fedTo x)
+      supply-is : (x : ℕ) → supply t (stateAt n S count c true k (capped m) end v) x ≡ settle t ((n + 2) * (maxBody + 2)) (fedTo x)
       supply-is x =
-          let st = stateAt n S count c true k end v in
+          let st = stateAt n S count c true k (capped m) end v in
           let go : Config ℕ → Stepped = λ c. settle t (enough st) (stepped t (counted st) (takeByte (ofTables t count S) c x)) in
           let is : supply t st x ≡ go c =
-          ap (onJudged _ _) (judged-turn given c true k end v s (ap wantsByte (h .2)) l true) ∙ ap go (stands given c true k end v s) in
-          let m : min maxSupplied (k + 1) ≡ k + 1 = omega (arith, sat-cap given c k s) in
-          is ∙ ap (λ m. settle t (enough st) (stepped t (stateAt n S count c false m end v) (takeByte (ofTables t count S) c x))) m
+          ap (onJudged _ _) (judged-turn given c true k (capped m) end v s few (ap wantsByte (h .2)) l true) ∙ ap go (stands given c true k (capped m) end v s) in
+          let more : min maxSupplied (k + 1) ≡ k + 1 = omega (arith, sat-cap given c k s) in
+          is ∙ ap (λ j. settle t (enough st) (stepped t (stateAt n S count c false j (capped m) end v) (takeByte (ofTables t count S) c x))) more
 
-      pub supply-plain : (x : ℕ) → isRefused (supply t (stateAt n S count c true k end v) x .answer) ≡ false
+      pub supply-plain : (x : ℕ) → isRefused (supply t (stateAt n S count c true k (capped m) end v) x .answer) ≡ false
       supply-plain x = ap (λ r. isRefused (r .answer)) (supply-is x) ∙ settle-plain t ((n + 2) * (maxBody + 2)) (fedTo x)
 
-      pub supply-settles : Settled (k + 1) todo (supply t (stateAt n S count c true k end v) (ask k (h .0)))
+      pub supply-settles : Settled (k + 1) todo (supply t (stateAt n S count c true k (capped m) end v) (ask k (h .0)))
       supply-settles =
           let x = ask k (h .0) in
           let w = fed k (h .0) c in
           let fuel = (n + 2) * (maxBody + 2) in
           let z : SatStep given c (k + 1) w = subst (SatNext given c k) (h .2) (next-sat given c k s) x in
           subst (Settled (k + 1) todo) (sym (supply-is x)) (subst (λ todo. Settled (k + 1) todo (settle t fuel (fedTo x))) (sym (h .4))
-          (step-settles (k + 1) fuel (h .1) c end w z (settle-settles (k + 1) fuel) (omega arith) (enough-steps n D (given .short) (w .config)) (h .3)))
+          (step-settles (k + 1) m fuel (h .1) c end w z (settle-settles (k + 1) fuel) (omega arith) (enough-steps n D (given .short) (w .config)) (h .3)))

@@ -4,11 +4,12 @@ use native.Mathlib.Omega.{arith}
 use mathlib.Core.Path.{_≡_, refl, ap, sym, _∙_}
 use mathlib.Core.List.{List, [], _∷_, _++_}
 use mathlib.Core.Option.{Option, some, none}
+use lib.ListN.{length}
 use Rattle.book.specs.Book.{maxBody}
 use Rattle.rules.specs.Rules.{Tree, Stretch, Config, Event, shifted, Step, Next, finished, wants, goes, place, hitAt, leftOver, cut, kept, hitsUp, recall, ended, endRound, taken, takeByte, look, next}
-use Rattle.rules.specs.Sweep.{hits}
+use Rattle.rules.specs.Sweep.{recalls, hits}
 use Rattle.rules.specs.Laws.Tests.{next-cases}
-use Rattle.rules.specs.Laws.Hits.{end-events}
+use Rattle.rules.specs.Laws.Hits.{end-events, end-recalls}
 use Rattle.rules.specs.Laws.All.{All, all-append, all-select}
 use Rattle.rules.specs.Laws.Limit.{ended-laid}
 use Rattle.rules.specs.Laws.Limit.Span.{cut-ge, kept-spans, kept-upto}
@@ -20,15 +21,16 @@ use Rattle.rules.specs.Laws.Exact.Shift.{shift-upto}
 use Rattle.tables.specs.Laws.Shape.{up, Falling}
 use Rattle.tables.specs.Laws.WordAdded.{num}
 use Rattle.tables.specs.Laws.Hits.{hits-climb, Carries, carrier-carries}
-use Rattle.scan.specs.Calls.{firstHit}
-use Rattle.scan.specs.Answers.{answers}
+use Rattle.scan.specs.Calls.{found, firstHit}
+use Rattle.scan.specs.Laws.Bill.{plan, says}
 use Rattle.scan.specs.Laws.Within.{Ready, Fits, Within, Pending}
 
 -- What a step from c leaves to be answered: the hits at its boundary from the node of its first hit up.
 pub record Leaves (t : Tables) (count n S : ℕ) (c : Config ℕ) (w : Step ℕ) : Type 0 where
   pub pending : let v = firstHit t (c .node) (w .events) in 0 < v → Pending t count n S (w .config) (c .boundary) v
   pub heard : let v = firstHit t (c .node) (w .events) in
-      (rest : List (Event ℕ)) → answers (w .events ++ rest) ≡ answers (hitsUp (ofTables t count S) (c .boundary) v (depth t v) ++ rest)
+      (m : ℕ) (rest : List (Event ℕ))
+      → plan m (w .events ++ rest) ≡ plan (m + length (recalls (w .events))) (hitsUp (ofTables t count S) (c .boundary) v (depth t v) ++ rest)
 
 -- A step from c: it stays in range, fewer steps are left, and it leaves its hits.
 pub record WithinStep (t : Tables) (count n S : ℕ) (c : Config ℕ) (w : Step ℕ) : Type 0 where
@@ -42,16 +44,16 @@ WithinNext t count n S c finished = Unit {0}
 WithinNext t count n S c (wants at) = (x : ℕ) → WithinStep t count n S c (takeByte (ofTables t count S) c x)
 WithinNext t count n S c (goes w) = WithinStep t count n S c w
 
--- The answers of a round's hits, and of what comes after them: a shift has none.
-shift-unheard : {E : Type 0} (tree : Tree E) (end : ℕ) (v : E) (k b : ℕ) (ss : List (Stretch E)) (rest : List (Event E))
-    → answers (hitsUp tree end v k ++ (shifted b ss ∷ rest)) ≡ answers (hitsUp tree end v k ++ rest)
-shift-unheard tree end v zero b ss rest = refl
-shift-unheard tree end v (suc k) b ss rest = go (tree .token (tree .ancestor v (suc k))) (shift-unheard tree end v k b ss rest)
+-- The plan of a round's hits, and of what comes after them: a shift has no part in it.
+shift-unheard : {E : Type 0} (tree : Tree E) (end : ℕ) (v : E) (k b : ℕ) (ss : List (Stretch E)) (m : ℕ) (rest : List (Event E))
+    → plan m (hitsUp tree end v k ++ (shifted b ss ∷ rest)) ≡ plan m (hitsUp tree end v k ++ rest)
+shift-unheard tree end v zero b ss m rest = refl
+shift-unheard tree end v (suc k) b ss m rest = go (tree .token (tree .ancestor v (suc k))) (shift-unheard tree end v k b ss m rest)
   where
-    go : (i : ℕ) → answers (hitsUp tree end v k ++ (shifted b ss ∷ rest)) ≡ answers (hitsUp tree end v k ++ rest)
-        → answers ((hitAt end i ++ hitsUp tree end v k) ++ (shifted b ss ∷ rest)) ≡ answers ((hitAt end i ++ hitsUp tree end v k) ++ rest)
+    go : (i : ℕ) → plan m (hitsUp tree end v k ++ (shifted b ss ∷ rest)) ≡ plan m (hitsUp tree end v k ++ rest)
+        → plan m ((hitAt end i ++ hitsUp tree end v k) ++ (shifted b ss ∷ rest)) ≡ plan m ((hitAt end i ++ hitsUp tree end v k) ++ rest)
     go zero e = e
-    go (suc i) e = cc e
+    go (suc i) e = ap (says (found end (suc i)) m) e
 
 -- Hits are hits, and a shift is none.
 hits-end : {E : Type 0} (tree : Tree E) (end : ℕ) (v : E) (k b : ℕ) (ss : List (Stretch E))
@@ -137,10 +139,11 @@ module _ {t : Tables} {count n S : ℕ} (ready : Ready t count n S) (c : Config 
             root = refl;
             upto = kept-upto maxBody (c .boundary) (c .boundary) 0 (kept b) (ended tree c) (omega arith) laid;
           });
-          heard = rw (first-is o) (λ rest.
-              ap answers (end-events tree c o rest)
-              ∙ shift-unheard tree (c .boundary) (c .node) (c .depth) _ _ rest
-              ∙ ap (λ es. answers (es ++ rest)) (ap (hitsUp tree (c .boundary) (c .node)) (sym (w .held .sized)) ∙ nearest-hits .same));
+          heard = rw (first-is o, end-recalls tree c o) (λ m rest.
+              let none : m + 0 ≡ m = omega arith in
+              rw none (ap (plan m) (end-events tree c o rest)
+              ∙ shift-unheard tree (c .boundary) (c .node) (c .depth) _ _ m rest
+              ∙ ap (λ es. plan m (es ++ rest)) (ap (hitsUp tree (c .boundary) (c .node)) (sym (w .held .sized)) ∙ nearest-hits .same)));
         };
       }
 
@@ -161,16 +164,28 @@ module _ {t : Tables} {count n S : ℕ} (ready : Ready t count n S) (c : Config 
         };
         early = i;
         less = less-deeper n maxBody (c .boundary) (c .depth) i deep;
-        leaves = record { pending = λ a. absurd (omega arith); heard = λ rest. refl };
+        leaves = record { pending = λ a. absurd (omega arith); heard = λ m rest. let none : m + 0 ≡ m = omega arith in rw none refl };
       }
 
   look-within : c .boundary ≤ n → c .depth < c .boundary → (o : Option ℕ) → WithinNext t count n S c (look (ofTables t count S) c o)
   look-within i j none = λ x. taken-within i j x _ refl
   look-within i j (some x) =
       let r = taken-within i j x _ refl in
-      record { within = r .within; early = i; less = r .less; leaves = record { pending = r .leaves .pending; heard = r .leaves .heard } }
+      record {
+        within = r .within;
+        early = i;
+        less = r .less;
+        leaves = record {
+          pending = r .leaves .pending;
+          heard = λ m rest.
+              let es = takeByte (ofTables t count S) c x .events in
+              let v = firstHit t (c .node) es in
+              let sum : suc m + length (recalls es) ≡ m + suc (length (recalls es)) = omega arith in
+              r .leaves .heard (suc m) rest ∙ ap (λ k. plan k (hitsUp (ofTables t count S) (c .boundary) v (depth t v) ++ rest)) sum;
+        };
+      }
 
   pub next-within : WithinNext t count n S c (next (ofTables t count S) n c)
   next-within =
       next-cases (ofTables t count S) n c (WithinNext t count n S c) (λ _. tt) (λ i _. end-within i none)
-      (λ i j. look-within i (omega (arith, w .held .inside)) (recall (ofTables t count S) (c .stretches) (place c)))
+      (λ i _ j. look-within i (omega (arith, w .held .inside)) (recall (ofTables t count S) (c .stretches) (place c)))

@@ -8,7 +8,7 @@ use mathlib.Core.List.{List, [], _∷_}
 use mathlib.Core.Option.{Option, some, none}
 use lib.ListN.{length, length-drop}
 use Rattle.book.specs.Book.{maxBody, maxBodies, maxImage}
-use Rattle.rules.specs.Rules.{Stretch, Config, Event, fetched, recalled, hit, shifted, done, Step, Next, finished, wants, goes, fresh, takeByte, next}
+use Rattle.rules.specs.Rules.{Stretch, Config, Step, Next, finished, wants, goes, fresh, takeByte, next}
 use Rattle.rules.specs.Words.{allWords}
 use Rattle.rules.specs.Tokens.{grown, ofTokens}
 use Rattle.rules.specs.Laws.Setting.{Setting}
@@ -16,14 +16,13 @@ use Rattle.rules.specs.Laws.Limit.{Fine, FineStep, FineNext, next-fine, fresh-f
 use Rattle.rules.specs.Laws.Limit.Ends.{stepsLeft, Finite}
 use Rattle.rules.specs.Laws.Limit.Span.{Spans, Upto}
 use Rattle.rules.specs.Laws.Exact.{tokens-finite}
-use Rattle.rules.specs.Laws.Image.{stretchesOf, configOf, eventsOf, nextOf, stepOf}
+use Rattle.rules.specs.Laws.Image.{stretchesOf, configOf, nextOf, stepOf}
 use Rattle.rules.specs.Laws.Alike.{Both, Alike, Apt, AptNext, take-same, take-apt, next-same, next-apt}
 use Rattle.tables.specs.Tables.{Tables}
 use Rattle.tables.specs.Walks.{childBy, ending, ofTables}
 use Rattle.tables.specs.Laws.Nodes.{Stand}
 use Rattle.tables.specs.Laws.Represents.{Represents}
 use Rattle.tables.specs.Laws.Unbroken.{unbroken}
-use Rattle.scan.specs.Answers.{answers}
 use Rattle.scan.specs.Laws.Within.{Ready, Within, Left}
 use Rattle.scan.specs.Laws.Stay.{Leaves, WithinStep, WithinNext, next-within}
 
@@ -157,12 +156,3 @@ module _ {tokens : List (List ℕ)} {S D : ℕ} {t : Tables} {count n : ℕ} (gi
 
   pub fresh-left : Left t count n S (fresh (ofTables t count S) S) false 0 0
   fresh-left = record { none = λ _. refl; some = λ a. absurd (omega arith); idle = λ _. refl }
-
--- The calls' answers do not show nodes.
-pub events-answers : {E F : Type 0} (f : E → F) (es : List (Event E)) → answers (eventsOf f es) ≡ answers es
-events-answers f [] = refl
-events-answers f (fetched p ∷ es) = cc (events-answers f es)
-events-answers f (recalled p ∷ es) = events-answers f es
-events-answers f (hit e i ∷ es) = cc (events-answers f es)
-events-answers f (shifted b ss ∷ es) = events-answers f es
-events-answers f (done ∷ es) = refl

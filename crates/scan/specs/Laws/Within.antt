@@ -19,7 +19,7 @@ use Rattle.tables.specs.Walks.{depth}
 use Rattle.tables.specs.Broken.{broken}
 use Rattle.tables.specs.Laws.Unbroken.{Unbroken, unbroken}
 use Rattle.scan.specs.declared.Scan.{Scan}
-use Rattle.scan.specs.State.{configOf, used, laid, slotsOk, maxNodes, maxShortest, farthest, maxSupplied, maxStretches, countOk, imageOk, shortestOk, nodeOk, boundaryOk, suppliedOk, stretchOk, rising, stretchesOk, dueOk, upTo, endOk, hitOk, leftOk, inRange, sameSlots}
+use Rattle.scan.specs.State.{configOf, used, laid, slotsOk, maxNodes, maxShortest, farthest, maxSupplied, maxSpared, maxStretches, countOk, imageOk, shortestOk, nodeOk, boundaryOk, suppliedOk, sparedOk, stretchOk, rising, stretchesOk, dueOk, upTo, endOk, hitOk, leftOk, inRange, sameSlots}
 use Rattle.scan.specs.Calls.{moved, owing}
 use Rattle.scan.specs.Laws.Slots.{Real, right-real, used-laid, same-slots}
 
@@ -30,6 +30,10 @@ pub record Ready (t : Tables) (count n S : ℕ) : Type 0 where
   pub image : n ≤ maxImage
   pub positive : 1 ≤ S
   pub first : S ≤ maxShortest
+
+-- The two counts have not passed where they stop.
+abbrev pub Counts : Scan → Type 0
+Counts s = (s .supplied ≤ maxSupplied) × (s .spared ≤ maxSpared)
 
 -- A stretch is as long as its node is deep.
 abbrev pub Fits : Tables → ℕ → Stretch ℕ → Type 0
@@ -171,7 +175,7 @@ module _ (t : Tables) (s : Scan) where
       )
 
   -- The tests pass.
-  pub in-range : Ready t (s .count) (s .image) (s .shortest) → s .supplied ≤ maxSupplied → slotsOk s ≡ true
+  pub in-range : Ready t (s .count) (s .image) (s .shortest) → Counts s → slotsOk s ≡ true
       → Within t (s .count) (s .image) (configOf s) → dueOk t s ≡ true → LeftFor t s → inRange t s ≡ true
   in-range r k slots w due left =
       let c = configOf s in
@@ -185,7 +189,8 @@ module _ (t : Tables) (s : Scan) where
         eq-eqb (depth t (c .node)) (c .depth) (w .held .sized),
         le-leb (c .depth) (c .boundary) (w .held .inside),
         le-leb (c .boundary) (farthest (s .image)) (w .near),
-        le-leb (s .supplied) maxSupplied k,
+        le-leb (s .supplied) maxSupplied (k .0),
+        le-leb (s .spared) maxSpared (k .1),
         slots,
         rising-true 0 (c .stretches) (w .fits) (w .held .spans) (w .upto),
         due,
@@ -194,7 +199,8 @@ module _ (t : Tables) (s : Scan) where
 
   -- And what they say when they pass.
   abbrev tests : List Bool
-  tests = countOk s ∷ imageOk s ∷ shortestOk s ∷ nodeOk t s ∷ boundaryOk s ∷ suppliedOk s ∷ stretchesOk t s ∷ dueOk t s ∷ leftOk t s ∷ []
+  tests =
+      countOk s ∷ imageOk s ∷ shortestOk s ∷ nodeOk t s ∷ boundaryOk s ∷ suppliedOk s ∷ sparedOk s ∷ stretchesOk t s ∷ dueOk t s ∷ leftOk t s ∷ []
 
   abbrev stretchTests : Stretch ℕ → List Bool
   stretchTests m =
@@ -239,16 +245,16 @@ module _ (t : Tables) (s : Scan) where
         }
 
     pub slots : slotsOk s ≡ true
-    slots = passed (slotsOk s ∷ rising t s 0 (used (s .stretches)) ∷ []) (passed tests h 6) 0
+    slots = passed (slotsOk s ∷ rising t s 0 (used (s .stretches)) ∷ []) (passed tests h 7) 0
 
-    pub counts : s .supplied ≤ maxSupplied
-    counts = leb-true (s .supplied) maxSupplied (passed tests h 5)
+    pub counts : Counts s
+    counts = (leb-true (s .supplied) maxSupplied (passed tests h 5), leb-true (s .spared) maxSpared (passed tests h 6))
 
     pub dues : dueOk t s ≡ true
-    dues = passed tests h 7
+    dues = passed tests h 8
 
     pub lefts : leftOk t s ≡ true
-    lefts = passed tests h 8
+    lefts = passed tests h 9
 
     pub within : Unbroken t (s .count) → Within t (s .count) (s .image) (configOf s)
     within u =
@@ -256,7 +262,7 @@ module _ (t : Tables) (s : Scan) where
         let p = passed tests h in
         let node = passed (ltb (c .node) (s .count) ∷ eqb (depth t (c .node)) (c .depth) ∷ []) (p 3) in
         let bounds = passed (leb (c .depth) (c .boundary) ∷ leb (c .boundary) (farthest (s .image)) ∷ []) (p 4) in
-        let stretches = passed (slotsOk s ∷ rising t s 0 (c .stretches) ∷ []) (p 6) in
+        let stretches = passed (slotsOk s ∷ rising t s 0 (c .stretches) ∷ []) (p 7) in
         let below = ltb-true (c .node) (s .count) (node 0) in
         let sized = eqb-true (depth t (c .node)) (c .depth) (node 1) in
         let r = rising-out u 0 (c .stretches) (stretches 1) in
@@ -280,7 +286,7 @@ owing-left t count n S c due idle end zero p = record { none = λ _. refl; some 
 owing-left t count n S c due idle end (suc v) p = record { none = λ e. absurd (omega arith); some = p; idle = λ _. idle }
 
 -- The tests pass where a state that waits for no byte is moved to a configuration in range, with hits in range left.
-pub owing-range : (t : Tables) (s : Scan) → Ready t (s .count) (s .image) (s .shortest) → s .supplied ≤ maxSupplied
+pub owing-range : (t : Tables) (s : Scan) → Ready t (s .count) (s .image) (s .shortest) → Counts s
     → (c : Config ℕ) → Within t (s .count) (s .image) c → s .due ≡ false → (end v : ℕ)
     → (0 < v → Pending t (s .count) (s .image) (s .shortest) c end v) → inRange t (owing (moved s c) end v) ≡ true
 owing-range t s r k c w idle end v p =

@@ -16,9 +16,9 @@ use Rattle.book.specs.declared.Refusal.the-variants.{Unfinished, UnknownKind, T
 use Rattle.book.specs.Laws.Accepted.{summed, accepted-fit}
 use Rattle.tables.specs.Tables.{Tables, built, written, shortestTable}
 use Rattle.image.specs.declared.Swept.{Swept as Answer}
-use Rattle.whole.specs.Image.{room, hitsOf, fetchesOf, counted, noted, sweepImage}
+use Rattle.whole.specs.Image.{room, hitsOf, fetchesOf, sparesOf, counted, noted, sweepImage}
 use Rattle.image.specs.declared.Swept.the-variants.{Unread, TooShort, TooLong}
-use Rattle.image.specs.Results.{sweptOf, fetchedOf}
+use Rattle.image.specs.Results.{sweptOf, fetchedOf, sparedOf}
 use Rattle.image.specs.Rule5.{tokensIn, tokensOf}
 use Rattle.sweep.specs.Program.{Accepted, Known, Answered}
 
@@ -29,6 +29,7 @@ module _ (book image : List ℕ) (t : Tables) (ends numbers : List ℕ) (read : 
       record {
         answer = counted r (length found);
         fetched = fetchesOf (tokensOf book) image;
+        spared = sparesOf (tokensOf book) image;
         tables = written (built (tokensOf book)) t;
         ends = noted (λ h. h .0) r found ends;
         tokens = noted (λ h. h .1) r found numbers;
@@ -38,11 +39,18 @@ module _ (book image : List ℕ) (t : Tables) (ends numbers : List ℕ) (read : 
       cc (read, le-ltb maxImage (length image) small, le-ltb (shortestTable t) (1 + bodyBytes (tokensOf book)) (omega (arith, f .bodies)))
 
   pub finds : (r : Answer) (u : Tables) (ends′ numbers′ : List ℕ)
-      → record { answer = sweptOf r; fetched = fetchedOf r; tables = u; ends = ends′; tokens = numbers′ } ≡ sweepImage book image t ends numbers
+      → record { answer = sweptOf r; fetched = fetchedOf r; spared = sparedOf r; tables = u; ends = ends′; tokens = numbers′ }
+      ≡ sweepImage book image t ends numbers
       → Answered book image r ends numbers ends′ numbers′
   finds r u ends′ numbers′ e =
       let q = e ∙ swept in
-      record { answer = ap (λ s. s .answer) q; fetched = ap (λ s. s .fetched) q; in-ends = ap (λ s. s .ends) q; in-tokens = ap (λ s. s .tokens) q }
+      record {
+        answer = ap (λ s. s .answer) q;
+        fetched = ap (λ s. s .fetched) q;
+        spared = ap (λ s. s .spared) q;
+        in-ends = ap (λ s. s .ends) q;
+        in-tokens = ap (λ s. s .tokens) q;
+      }
 
 -- What reading tells of a book that is accepted.
 pub known : (book : List ℕ) (totals : Sums) → accepted (totalled totals) ≡ summary (readBook book) → Known book totals

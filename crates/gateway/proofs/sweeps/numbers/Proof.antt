@@ -9,7 +9,7 @@ use denote.Enum.Declared.{tagOf}
 use types.Run.{OneOf}
 use Rattle.book.specs.Book.{refused, refusalIn}
 use Rattle.image.proofs.Swept.{the-type}
-use Rattle.image.specs.Results.{sweptOf as verdictOf, fetchedOf}
+use Rattle.image.specs.Results.{sweptOf as verdictOf, fetchedOf, sparedOf}
 use Rattle.image.specs.declared.Swept.{Swept}
 use Rattle.image.specs.declared.Swept.the-variants.{Whole, Unread, TooShort, TooLong, TooMany}
 use Rattle.gateway.specs.Numbers.{sweptOf}
@@ -18,7 +18,8 @@ use Rattle.gateway.proofs.sweeps.numbers.Tie as tie
 
 -- What is refused has its number and value, and zeros.
 unswept : (a : Swept) → OneOf (1 ∷ 2 ∷ 3 ∷ 4 ∷ []) (tagOf the-type a) → (k v : ℕ)
-    → (k ≡ refusalIn (verdictOf a) .0) × (v ≡ refusalIn (verdictOf a) .1) → sweptOf (refused k v) 0 ≡ sweptOf (verdictOf a) (fetchedOf a)
+    → (k ≡ refusalIn (verdictOf a) .0) × (v ≡ refusalIn (verdictOf a) .1)
+    → sweptOf (refused k v) 0 0 ≡ sweptOf (verdictOf a) (fetchedOf a) (sparedOf a)
 unswept (Whole found) other k v e =
     absurd
     (⊎-elim (λ e. omega (arith, e)) (⊎-elim (λ e. omega (arith, e)) (⊎-elim (λ e. omega (arith, e)) (λ e. omega (arith, e)))) other)

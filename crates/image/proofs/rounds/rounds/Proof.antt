@@ -14,12 +14,13 @@ use Rattle.image.proofs.rounds.rounds.Statement.{statement}
 use Rattle.image.proofs.rounds.rounds.Tie as tie
 
 abbrev Inv-loop : tie.InvT-loop
-Inv-loop book image label token first next count kids shortest kept₀ ends₀ tokens₀ nodes₀ bytes₀ skip₀ pairs₀ b₀ spans₀ fetched₀ hits₀ kept ends tokens nodes bytes skip pairs b spans fetched hits =
-    Rounding book image shortest ends₀ tokens₀ ends tokens nodes bytes skip pairs (record { boundary = b; spans = spans; fetched = fetched; hits = hits })
+Inv-loop book image label token first next count kids shortest kept₀ ends₀ tokens₀ nodes₀ bytes₀ skip₀ pairs₀ b₀ spans₀ fetched₀ spared₀ hits₀ kept ends tokens nodes bytes skip pairs b spans fetched spared hits =
+    Rounding book image shortest ends₀ tokens₀ ends tokens nodes bytes skip pairs
+    (record { boundary = b; spans = spans; fetched = fetched; spared = spared; hits = hits })
     × (length kept ≡ maxBody)
 
 abbrev μ-loop : tie.MeasureT-loop
-μ-loop book image label token first next count kids shortest kept₀ ends₀ tokens₀ nodes₀ bytes₀ skip₀ pairs₀ b₀ spans₀ fetched₀ hits₀ kept ends tokens nodes bytes skip pairs b spans fetched hits =
+μ-loop book image label token first next count kids shortest kept₀ ends₀ tokens₀ nodes₀ bytes₀ skip₀ pairs₀ b₀ spans₀ fetched₀ spared₀ hits₀ kept ends tokens nodes bytes skip pairs b spans fetched spared hits =
     length image + 1 - b
 
 -- the function's entry, from the loop; the loop, from the round
@@ -33,23 +34,44 @@ turn m = m .before .before .before .before .before .before .before .before .befo
 abbrev tried : tie.Joined1 Inv-loop μ-loop → tie.After-attempt Inv-loop μ-loop
 tried j = j .before .before .before .before .before .before .before .before .before .before .before .before .before .before .before .before
 
+-- and from the count of its places in no stretch
+abbrev counted : tie.After-loose Inv-loop μ-loop → tie.After-attempt Inv-loop μ-loop
+counted c = c .before .before .before .before .before .before .before .before .before .before .before .before .before .before .before .before .before
+
 abbrev here : tie.At-loop Inv-loop μ-loop → Standing
-here c = record { boundary = c .loop .b; spans = c .loop .spans; fetched = c .loop .fetched; hits = c .loop .hits }
+here c = record { boundary = c .loop .b; spans = c .loop .spans; fetched = c .loop .fetched; spared = c .loop .spared; hits = c .loop .hits }
 
 inside : (m : tie.After-attempt Inv-loop μ-loop) → turn m .loop .b ≤ length (start (turn m) .args .image .now)
 inside m = m .before .before .before .before .before .before .before .before .loop-test .taken
 
 numbers : (m : tie.After-attempt Inv-loop μ-loop) → let b = turn m .loop .b in
     let r = m .attempt .result in
-    (r .depth ≤ b) × (r .low ≤ b) × (1 ≤ r .by) × (r .by ≤ 1024) × (b ≤ 16777216) × (turn m .loop .fetched ≤ 2 ^ 36)
+    (r .depth ≤ b) × (r .low ≤ b) × (1 ≤ r .by) × (r .by ≤ 1024) × (b ≤ 16777216) × (turn m .loop .fetched + turn m .loop .spared ≤ 2 ^ 36)
 numbers m = ended-numbers (known (turn m .loop .inv .0)) (inside m) (start (turn m) .pre .0 .within) (m .attempt .ensures .0)
 
+-- They are not more than those it looked at.
+fresh : (c : tie.After-loose Inv-loop μ-loop) → c .loose .result ≤ turn (counted c) .loop .b - counted c .attempt .result .low
+fresh c = let m = counted c in
+    omega (
+      arith,
+      c .loose .ensures,
+      ended-loose (known (turn m .loop .inv .0)) (inside m) (start (turn m) .pre .0 .within) (m .attempt .ensures .0),
+    )
+
 -- Where the sweep then stands.
+abbrev after : tie.Joined1 Inv-loop μ-loop → Standing
+after j = let m = tried j in
+    record {
+      boundary = turn m .loop .b + m .attempt .result .by;
+      spans = j .if1 .spans;
+      fetched = j .if1 .fetched;
+      spared = j .if1 .spared;
+      hits = m .attempt .result .hits;
+    }
+
 next : (j : tie.Joined1 Inv-loop μ-loop) → let m = tried j in
     let a = start (turn m) .args in
-    Turned (a .book .now) (a .image .now) (here (turn m))
-    (record { boundary = turn m .loop .b + m .attempt .result .by; spans = j .if1 .spans; fetched = j .if1 .fetched; hits = m .attempt .result .hits })
-    (m .attempt .result .hits)
+    Turned (a .book .now) (a .image .now) (here (turn m)) (after j) (m .attempt .result .hits)
 next j = let m = tried j in
     let k = known (turn m .loop .inv .0) in
     let w = start (turn m) .pre .0 .within in
@@ -57,8 +79,8 @@ next j = let m = tried j in
     let hits = m .attempt .result .hits in
     let f = j .before .forgets .ensures in
     ⊎-elim
-    (λ w1. turned-as (w1 .2) (w1 .3) (turned-bare k (inside m) w e hits (sym f ∙ w1 .0 .taken)))
-    (λ w2. turned-as (w2 .5) (w2 .6) (turned k (inside m) w e (w2 .4 .result) (w2 .1 .result) hits (w2 .4 .ensures) (w2 .1 .ensures)))
+    (λ w1. turned-as (w1 .2) (w1 .3) (w1 .4) (turned-bare k (inside m) w e hits (sym f ∙ w1 .0 .taken)))
+    (λ w2. turned-as (w2 .6) (w2 .7) (w2 .8) (turned k (inside m) w e (w2 .5 .result) (w2 .1 .result) hits (w2 .5 .ensures) (w2 .1 .ensures)))
     (j .if1 .came)
 
 -- What then holds there: the buffers have what was found, and the caches are right.
@@ -73,8 +95,7 @@ holds m after e w = let c = turn m in
     let f = m .attempt .ensures .1 in
     rounding-again (c .loop .inv .0) (round-goes (start c .pre .0) (known (c .loop .inv .0)) (inside m) w (rw e (f .0))) (f .1)
 
-again : (j : tie.Joined1 Inv-loop μ-loop) → let m = tried j in
-    Holds m (record { boundary = turn m .loop .b + m .attempt .result .by; spans = j .if1 .spans; fetched = j .if1 .fetched; hits = m .attempt .result .hits })
+again : (j : tie.Joined1 Inv-loop μ-loop) → Holds (tried j) (after j)
 again j = holds (tried j) _ refl (next j)
 
 none-requires : tie.Need-none-requires Inv-loop μ-loop
@@ -83,7 +104,7 @@ none-requires c κs = search needs
 loop-holds : tie.Need-loop-holds Inv-loop μ-loop
 loop-holds c = let s = c .before .before .before .before .before .before .before .before .before .before .before .before .before .before .before in
     let e = c .none .ensures in
-    (rounding-begins (s .args .ends .now) (s .args .tokens .now) (s .pre .0) (s .pre .1 .1 .1) refl e (refl, refl), s .pre .1 .1 .0)
+    (rounding-begins (s .args .ends .now) (s .args .tokens .now) (s .pre .0) (s .pre .1 .1 .1) refl e (refl, refl, refl), s .pre .1 .1 .0)
 
 attempt-requires : tie.Need-attempt-requires Inv-loop μ-loop
 attempt-requires c κs = let l = c .before .before .before .before .before .before .before .before in
@@ -106,22 +127,25 @@ loose-requires c κs = let m = c .before .before .before .before .before .before
     (ended-fits (known (turn m .loop .inv .0)) (inside m) (start (turn m) .pre .0 .within) (m .attempt .ensures .0), (n .1, omega (arith, n)))
 
 add-fetched-2 : tie.Need-add-fetched-2 Inv-loop μ-loop
-add-fetched-2 c = let m = c .before .before .before .before .before .before .before .before .before .before .before .before .before .before .before .before .before in
-    omega (
-      arith,
-      numbers m,
-      c .loose .ensures,
-      ended-loose (known (turn m .loop .inv .0)) (inside m) (start (turn m) .pre .0 .within) (m .attempt .ensures .0),
-    )
+add-fetched-2 c = omega (arith, numbers (counted c), fresh c)
+
+sub-spared : tie.Need-sub-spared Inv-loop μ-loop
+sub-spared c = omega (arith, numbers (counted (c .before)))
+
+sub-spared-2 : tie.Need-sub-spared-2 Inv-loop μ-loop
+sub-spared-2 c = omega (arith, fresh (c .before))
+
+add-spared : tie.Need-add-spared Inv-loop μ-loop
+add-spared c = omega (arith, numbers (counted (c .before)))
 
 sub-remember : tie.Need-sub-remember Inv-loop μ-loop
-sub-remember c = omega (arith, numbers (c .before .before .before .before .before .before .before .before .before .before .before .before .before .before .before .before .before .before))
+sub-remember c = omega (arith, numbers (counted (c .before .before)))
 
 add-remember : tie.Need-add-remember Inv-loop μ-loop
-add-remember c = omega (arith, numbers (c .before .before .before .before .before .before .before .before .before .before .before .before .before .before .before .before .before .before .before))
+add-remember c = omega (arith, numbers (counted (c .before .before .before)))
 
 remember-requires : tie.Need-remember-requires Inv-loop μ-loop
-remember-requires c κs = let m = c .before .before .before .before .before .before .before .before .before .before .before .before .before .before .before .before .before .before .before in
+remember-requires c κs = let m = counted (c .before .before .before) in
     let n = numbers m in
     let k = known (turn m .loop .inv .0) in
     let w = start (turn m) .pre .0 .within in
@@ -185,6 +209,9 @@ rounds-spec =
     add-fetched
     loose-requires
     add-fetched-2
+    sub-spared
+    sub-spared-2
+    add-spared
     sub-remember
     add-remember
     remember-requires

@@ -25,6 +25,7 @@ lay-spec =
     (λ c κs. search needs)
     (λ c. simp length-set (omega arith))
     (λ c. simp length-set (omega arith))
+    (λ c. simp length-set (omega arith))
     (λ c. search needs)
     (λ c. simp length-set (omega arith))
     (λ c. search needs)

@@ -195,5 +195,5 @@ module _ (tokens : List (List ℕ)) (S D : ℕ) (setting : Setting tokens S D) (
   next-good c v =
       next-cases (ofTokens tokens S) (length image) c (NextGood c) (λ h. h)
       (λ h t. end-good c v h none tt (leaf-stop c v h t))
-      (λ h d. look-good c v h (omega (arith, v .inside)) (recall (ofTokens tokens S) (c .stretches) (place c))
+      (λ h _ d. look-good c v h (omega (arith, v .inside)) (recall (ofTokens tokens S) (c .stretches) (place c))
       (recall-known (byteOf image) tokens S (c .boundary) (c .stretches) (place c) (v .holds)))

@@ -3,6 +3,7 @@ use Prim.Native.Nat.{ℕ, zero, suc, _+_, _-_, _*_, _≤_, _<_}
 use native.Mathlib.Omega.{arith}
 use native.Mathlib.Nat.{mul-le-mul-right}
 use mathlib.Core.Path.{_≡_, refl}
+use mathlib.Core.Bool.{false}
 use mathlib.Core.List.{List, [], _∷_, _++_}
 use mathlib.Core.Option.{Option, some, none}
 use Rattle.rules.specs.Rules.{Tree, Config, Event, fetched, recalled, hit, shifted, done, place, deeper, fresh, recall, endRound, taken, look, follow, trace}
@@ -35,12 +36,13 @@ Whole (done ∷ es) = es ≡ []
 pub record Finite {E : Type 0} (tree : Tree E) (size : E → ℕ) (D : ℕ) : Type 0 where
   pub bare : size (tree .root) ≡ 0
   pub grows : (v : E) (x : ℕ) (w : E) → tree .child v x ≡ some w → (size w ≡ suc (size v)) × (size w ≤ D)
+  pub inner : (v : E) → tree .leaf v ≡ false → size v < D
   pub moves : (v : E) (o : Option ℕ) → 1 ≤ tree .shift v o
 
 module _ {E : Type 0} (tree : Tree E) (size : E → ℕ) (D : ℕ) (finite : Finite tree size D) (n : ℕ) where
-  record Sized (c : Config E) : Type 0 where
-    sized : size (c .node) ≡ c .depth
-    deep : c .depth ≤ D
+  pub record Sized (c : Config E) : Type 0 where
+    pub sized : size (c .node) ≡ c .depth
+    pub deep : c .depth ≤ D
 
   -- what happens from any configuration on ends, with steps enough
   abbrev Enough : ℕ → (Config E → List (Event E)) → Type 0
@@ -69,7 +71,7 @@ module _ {E : Type 0} (tree : Tree E) (size : E → ℕ) (D : ℕ) (finite : Fin
   whole ask (suc fuel) k c s l =
       next-cases tree n c (λ x. Whole (follow tree ask (trace tree n ask fuel) k c x)) (λ _. refl)
       (λ h _. end-whole fuel c s h l (trace tree n ask fuel k) (whole ask fuel k) none)
-      (λ h _. looked h (whole ask fuel) (recall tree (c .stretches) (place c)))
+      (λ h _ _. looked h (whole ask fuel) (recall tree (c .stretches) (place c)))
     where
       looked : c .boundary ≤ n → ((k : ℕ) → Enough fuel (trace tree n ask fuel k)) → (o : Option ℕ)
           → Whole (follow tree ask (trace tree n ask fuel) k c (look tree c o))

@@ -6,7 +6,7 @@ use native.Mathlib.Omega.{arith}
 use borrow.Author.Tests.{lt-ltb, le-ltb, eq-eqb, ne-eqb, not-false}
 use lib.Dec.{ltb, eqb}
 use lib.ListN.{getD}
-use Rattle.scan.proofs.Laws.RangesDue.{due-tests}
+use Rattle.scan.proofs.Laws.RangesDue.{idle-passes, due-tests}
 use borrow.Author.Needs.{needs}
 use Rattle.scan.proofs.ranges.due_ok.Statement.{statement}
 use Rattle.scan.proofs.ranges.due_ok.Tie as tie
@@ -21,7 +21,7 @@ three : (c : tie.Else3)
 three c = (not-false _ (c .before .before .before .before .if1 .left), le-ltb _ _ (c .before .before .if2 .left), c .if3 .left)
 
 returns : tie.Need-returns
-returns c = search needs
+returns c = let a = c .before .before .before .args in sym (idle-passes (a .first .now) (a .scan) (c .if1 .taken))
 
 mul-if3 : tie.Need-mul-if3
 mul-if3 c = search needs

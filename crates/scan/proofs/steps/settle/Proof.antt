@@ -44,12 +44,13 @@ ends c = let d = c .before .before .before in
     (r .ensures (start l .args .first .now) (start l .args .next .now))
 
 -- and after a byte was taken.
-takes : (c : tie.After-take-byte Inv-loop μ-loop) → let l = run (c .before .before .before .before .before) in
+takes : (c : tie.After-take-byte Inv-loop μ-loop) → let l = run (c .before .before .before .before .before .before) in
     Onwards (lent (start l)) (start l .args .scan) (l .loop .at) (c .take-byte .result)
-takes c = let d = c .before .before .before .before in
+takes c = let d = c .before .before .before .before .before in
     let l = run (d .before) in
-    let x = c .before .before .x .given in
-    runs-takes (l .loop .inv) (d .before .if1 .left) (x .0 .0) (chosen d (Take (x .0 .0)) (x .1)) (c .take-byte .result) (c .take-byte .ensures)
+    let x = c .before .before .before .x .given in
+    runs-takes (l .loop .inv) (d .before .if1 .left) (x .0 .0) (chosen d (Take (x .0 .0)) (x .1)) (c .take-byte .result)
+    (rw (c .before .one-more .ensures) at (c .take-byte .ensures))
 
 loop-holds : tie.Need-loop-holds Inv-loop μ-loop
 loop-holds c = begins (c .before .before .before .before .before .pre)
@@ -95,8 +96,12 @@ loop-again c = ends c .0
 enum-known-x : tie.Need-enum-known-x Inv-loop μ-loop
 enum-known-x c = search needs
 
+one-more-requires : tie.Need-one-more-requires Inv-loop μ-loop
+one-more-requires c κs = search needs
+
 take-byte-requires : tie.Need-take-byte-requires Inv-loop μ-loop
-take-byte-requires c κs = let e = c .before .before .before .before in runs-stepping (run e .loop .inv) (e .if1 .left)
+take-byte-requires c κs = let e = c .before .before .before .before .before in
+    rw (c .one-more .ensures) (runs-stepping (run e .loop .inv) (e .if1 .left))
 
 loop-less-2 : tie.Need-loop-less-2 Inv-loop μ-loop
 loop-less-2 c = takes c .1
@@ -123,6 +128,7 @@ settle-spec =
     loop-less
     loop-again
     enum-known-x
+    one-more-requires
     take-byte-requires
     loop-less-2
     loop-again-2)

@@ -18,13 +18,13 @@ returns-2 c = let a = c .before .before .before .before .before .before .before 
     (w .0, w .1 ∙ ap (λ l. take (a .at) (a .out .now) ++ lineBytes l) (sym (c .before .before .before .before .before .before .before .what2 .given .1)))
 
 returns-3 : tie.Need-returns-3
-returns-3 c = let a = c .before .before .before .before .before .before .before .before .before .before .args in
-    let w = c .before .before .whole-line3 .ensures in
-    (w .0, w .1 ∙ ap (λ l. take (a .at) (a .out .now) ++ lineBytes l) (sym (c .before .before .before .before .before .before .before .what3 .given .1)))
+returns-3 c = let a = c .before .before .before .before .before .before .before .before .args in
+    let w = c .before .before .end-line .ensures in
+    (w .0, w .1 ∙ ap (λ l. take (a .at) (a .out .now) ++ lineBytes l) (sym (c .before .before .before .before .before .what3 .given .1)))
 
 returns-4 : tie.Need-returns-4
 returns-4 c = let a = c .before .before .before .before .before .before .before .before .before .before .args in
-    let w = c .before .before .whole-line4 .ensures in
+    let w = c .before .before .whole-line3 .ensures in
     (w .0, w .1 ∙ ap (λ l. take (a .at) (a .out .now) ++ lineBytes l) (sym (c .before .before .before .before .before .before .before .what4 .given .1)))
 
 pub put-spec : {M : Type 1} → statement M
@@ -39,8 +39,6 @@ put-spec =
     (λ c. search needs)
     (λ c. search needs)
     (λ c κs. search needs)
-    (λ c. search needs)
-    (λ c. search needs)
     (λ c. search needs)
     (λ c κs. search needs)
     (λ c. search needs)
