@@ -8,8 +8,10 @@ static size_t size[WORDS], many;
 static uint16_t number[WORDS]; /* of the token whose word it is */
 static uint8_t turned[TOKENS][CARD]; /* the reverses of card numbers */
 static uint8_t label[NODES];
-static uint16_t token[NODES], first[NODES], next[NODES];
-static uint16_t kids[256], skip[256], pairs[65536], by_node[NODES], by_byte[DEPTHS * 256];
+static uint16_t parent[NODES], token[NODES], first[NODES], next[NODES], shift[NODES];
+static size_t nodes;
+static uint16_t whole[NODES]; /* of each node the least shift at which a whole shortened word is its ending, or that of a node above */
+static uint16_t kids[256], skip[256], pairs[65536], by_byte[DEPTHS * 256];
 
 static size_t body_length(uint8_t kind) { return kind <= 64 ? kind : (size_t)128 << (kind - 65); }
 
@@ -42,8 +44,8 @@ static size_t read_book(const uint8_t *book) {
 }
 
 static void build(void) {
-    size_t count = 1;
-    token[0] = first[0] = next[0] = 0;
+    nodes = 1;
+    parent[0] = token[0] = first[0] = next[0] = 0;
     for (size_t w = 0; w < many; w++) {
         size_t node = 0;
         for (size_t k = 0; k < size[w]; k++) {
@@ -51,7 +53,8 @@ static void build(void) {
             size_t at = first[node], before = 0;
             while (at && label[at] != x) before = at, at = next[at];
             if (!at) {
-                at = count++;
+                at = nodes++;
+                parent[at] = node;
                 label[at] = x;
                 token[at] = first[at] = next[at] = 0;
                 if (before) next[before] = at;
@@ -65,21 +68,39 @@ static void build(void) {
     for (size_t at = first[0]; at; at = next[at]) kids[label[at]] = at;
 }
 
-/* Rule 5: the smallest shift for which a word agrees with the d bytes before `end`. */
-static size_t node_shift(size_t shortest, const uint8_t *end, size_t d) {
-    size_t best = shortest;
-    for (size_t w = 0; w < many && best > 1; w++) {
-        for (size_t s = 1; s < best; s++) {
-            size_t over = size[w] <= s ? 0 : size[w] - s, k = 0;
-            if (over > d) over = d;
-            while (k < over && *(last[w] - k - s) == *(end - 1 - k)) k++;
-            if (k == over) best = s;
-        }
-    }
-    return best;
+static void lower(uint16_t *least, size_t s) {
+    if (s < *least) *least = s;
 }
 
-/* The same for the byte x left of d matched ones. */
+/* Walks a word without its last s bytes from its right end down the tree: all of it agrees with the nodes met, and if it is walked to its
+ * left end, with those below the last one too. */
+static void walk_shortened(size_t w, size_t s) {
+    const uint8_t *end = last[w] - s;
+    size_t length = size[w] - s, node = kids[*end], k = 0;
+    while (node) {
+        lower(&shift[node], s);
+        if (++k == length) {
+            lower(&whole[node], s);
+            return;
+        }
+        node = first[node];
+        while (node && label[node] != *(end - k)) node = next[node];
+    }
+}
+
+/* Rule 5's node shifts: of each node the smallest s at which a word, moved s to the right, agrees with its ending. */
+static void fill_shifts(size_t shortest) {
+    for (size_t v = 0; v < nodes; v++) shift[v] = whole[v] = shortest;
+    shift[0] = 1;
+    for (size_t w = 0; w < many; w++)
+        for (size_t s = 1; s < shortest; s++) walk_shortened(w, s);
+    for (size_t v = 1; v < nodes; v++) {
+        lower(&whole[v], whole[parent[v]]);
+        lower(&shift[v], whole[v]);
+    }
+}
+
+/* The same for the byte x left of d matched ones alone. */
 static size_t byte_shift(size_t shortest, size_t d, uint8_t x) {
     size_t best = shortest;
     for (size_t w = 0; w < many && best > 1; w++)
@@ -88,9 +109,8 @@ static size_t byte_shift(size_t shortest, size_t d, uint8_t x) {
     return best;
 }
 
-static size_t shift_of(size_t shortest, const uint8_t *end, size_t node, size_t d, int closed, uint8_t x) {
-    size_t by = by_node[node], other;
-    if (!by) by = by_node[node] = node_shift(shortest, end, d);
+static size_t shift_of(size_t shortest, size_t node, size_t d, int closed, uint8_t x) {
+    size_t by = shift[node], other;
     if (!closed) return by;
     if (d >= DEPTHS) {
         other = byte_shift(shortest, d, x);
@@ -118,9 +138,9 @@ byhand_found byhand_sweep(const uint8_t *book, const uint8_t *image, size_t n, u
     size_t used = 0, b = read_book(book), shortest = b;
     byhand_found found = {0, 0, 0};
     build();
+    fill_shifts(shortest);
     memset(skip, 0, sizeof skip);
     memset(pairs, 0, sizeof pairs);
-    memset(by_node, 0, sizeof by_node);
     memset(by_byte, 0, sizeof by_byte);
     while (b <= n) {
         uint8_t x = image[b - 1];
@@ -159,7 +179,7 @@ byhand_found byhand_sweep(const uint8_t *book, const uint8_t *image, size_t n, u
             else closed = 1;
         }
         found.hits = note(found.hits, met, count, b, ends, tokens, room);
-        by = shift_of(shortest, image + b, node, d, closed, x);
+        by = shift_of(shortest, node, d, closed, x);
         if (!d && closed) skip[x] = by;
         if (d == 1 && closed && !count) pairs[256 * x + image[b - 1]] = by;
         size_t low = b - d - closed, from = b - d, edge = from, k = 0;

@@ -7,7 +7,7 @@
 
 #define TABLES(entry, byte) \
     entry *parent, size_t parent_len, byte *label, size_t label_len, entry *token, size_t token_len, entry *first, size_t first_len, \
-        entry *next, size_t next_len
+        entry *next, size_t next_len, entry *shift, size_t shift_len
 #define READ TABLES(const uint16_t, const uint8_t)
 
 /* What a call answers: kind 0 is a refusal, with its number and value; the other kinds are in crates/probe/specs/Numbers.antt. */
@@ -29,12 +29,12 @@ told probe_packet(size_t *state, size_t state_len, READ, const uint8_t *bytes, s
 enum { ENTRIES = 16385, PACKET = 64, NUMBERS = 26, SPARED = 8 };
 static uint8_t book[20000];
 static size_t book_len;
-static uint16_t parent[ENTRIES], token[ENTRIES], first[ENTRIES], next[ENTRIES];
+static uint16_t parent[ENTRIES], token[ENTRIES], first[ENTRIES], next[ENTRIES], shift[ENTRIES];
 static uint8_t label[ENTRIES];
 static size_t nodes;
 static volatile uint64_t sink;
 
-#define LENT parent, ENTRIES, label, ENTRIES, token, ENTRIES, first, ENTRIES, next, ENTRIES
+#define LENT parent, ENTRIES, label, ENTRIES, token, ENTRIES, first, ENTRIES, next, ENTRIES, shift, ENTRIES
 
 /* What a benchmark need not use. */
 #define SHARED __attribute__((unused)) static
@@ -77,7 +77,7 @@ __attribute__((noinline, aligned(64))) SHARED void pass_bytes(const uint8_t *byt
 
 __attribute__((noinline, aligned(64))) SHARED void pass_tables(void) {
     uint64_t sum = 0;
-    for (size_t v = 0; v < nodes; v++) sum = sum * 31 + parent[v] + label[v] + token[v] + first[v] + next[v];
+    for (size_t v = 0; v < nodes; v++) sum = sum * 31 + parent[v] + label[v] + token[v] + first[v] + next[v] + shift[v];
     sink = sum;
 }
 

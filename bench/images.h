@@ -1,11 +1,11 @@
-/* The images of 16 MiB that are swept, each with its book. They are made from one seed, so every benchmark has the same ones. */
+/* The images of 16 MiB that are swept, each with its book. They are made from one seed, so every benchmark has the same ones, each time. */
 #include "common.h"
 
 enum { N = 1 << 24 };
 static uint8_t *image;
+static uint64_t seed;
 
 static uint32_t some(void) {
-    static uint64_t seed = 88172645463325252u;
     seed ^= seed << 13, seed ^= seed >> 7, seed ^= seed << 17;
     return seed >> 16;
 }
@@ -121,6 +121,7 @@ static void run_row(row_of *row) {
 }
 
 static void each_image(row_of *row) {
+    seed = 88172645463325252u;
     image = malloc(N);
     random_rows("random", random_image, row);
     random_rows("memory", memory_image, row);
@@ -128,4 +129,5 @@ static void each_image(row_of *row) {
     run_row(row);
     random_row("random", random_image, "256 x 7", 256, 7, row);
     random_row("memory", memory_image, "256 x 7", 256, 7, row);
+    free(image);
 }

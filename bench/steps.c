@@ -66,8 +66,8 @@ typedef struct {
 /* The least that a call by value can do: it is handed a state, passes over the nodes, and hands the state back. */
 __attribute__((noinline)) static stepped bare(state s, READ, uint8_t byte) {
     stepped r = {.next = s};
-    uint64_t sum = byte + parent_len + label_len + token_len + first_len + next_len;
-    for (size_t v = 0; v < s.numbers[0]; v++) sum = sum * 31 + parent[v] + label[v] + token[v] + first[v] + next[v];
+    uint64_t sum = byte + parent_len + label_len + token_len + first_len + next_len + shift_len;
+    for (size_t v = 0; v < s.numbers[0]; v++) sum = sum * 31 + parent[v] + label[v] + token[v] + first[v] + next[v] + shift[v];
     r.next.numbers[5] += 1;
     r.answer[0] = sum;
     return r;

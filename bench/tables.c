@@ -22,6 +22,20 @@ static void make_alike(void) {
     book[book_len++] = 0;
 }
 
+/* `count` tokens of `size` bytes, all FFh but for the one at a place, which counts up from 0. The two costliest books to find the shifts of
+   that were found are such: of 16 x 1,024 bytes with the place 0, each token without its last bytes is walked down almost to its first,
+   however many it lacks; of 256 x 64 bytes with the place 62, each passes 255 siblings on its way. */
+static void make_runs(size_t count, size_t size, size_t place) {
+    book_len = 0;
+    for (size_t i = 0; i < count; i++) {
+        book[book_len++] = kind_of(size);
+        memset(book + book_len, 255, size);
+        book[book_len + place] = i;
+        book_len += size;
+    }
+    book[book_len++] = 0;
+}
+
 static void read_book(void) { sink = probe_read(book, book_len).numbers[0]; }
 
 /* The last token of the book, at the image's end, where it fits; and its bytes, compared plainly from the right. */
@@ -54,19 +68,23 @@ static void row(size_t count, size_t size, const char *kind) {
     build_tables();
     lay_last(count, size);
     least(runs, took, 7);
-    printf("%4zu x %-5zu%-6s %7zu %9.3f us %5.2f %9.3f us %5.2f %9.3f us %5.2f %9.3f us %5.2f\n", count, size, kind, nodes, took[1] * 1e6,
+    printf("%4zu x %-5zu%-6s %7zu %9.3f us %5.2f %9.3f us %7.2f %9.3f us %5.2f %9.3f us %5.2f\n", count, size, kind, nodes, took[1] * 1e6,
            took[1] / took[0], took[2] * 1e6, took[2] / took[0], took[4] * 1e6, took[4] / took[3], took[5] * 1e6,
            took[5] / (took[1] + took[6]));
 }
 
 int main(void) {
     static const size_t cases[][2] = {{256, 64}, {16, 1024}, {256, 8}, {256, 7}, {1, 5}};
-    printf("%-18s %7s %18s %18s %18s %18s\n", "book", "nodes", "read/pass", "build/pass", "test/pass", "fit/read+cmp");
+    printf("%-18s %7s %18s %20s %18s %18s\n", "book", "nodes", "read/pass", "build/pass", "test/pass", "fit/read+cmp");
     for (size_t i = 0; i < sizeof cases / sizeof *cases; i++) {
         make_book(cases[i][0], cases[i][1]);
         row(cases[i][0], cases[i][1], "");
     }
     make_alike();
     row(256, 64, "alike");
+    make_runs(16, 1024, 0);
+    row(16, 1024, "runs");
+    make_runs(256, 64, 62);
+    row(256, 64, "forks");
     return 0;
 }

@@ -15,7 +15,7 @@ enum { ENTRIES = 16385 };
 /* More than any image may have; what is longer is refused whatever it holds. */
 enum { MOST = 16777217 };
 
-static uint16_t parent[ENTRIES], token[ENTRIES], first_child[ENTRIES], next_sibling[ENTRIES];
+static uint16_t parent[ENTRIES], token[ENTRIES], first_child[ENTRIES], next_sibling[ENTRIES], shift[ENTRIES];
 static uint8_t label[ENTRIES];
 
 static void stop(const char *what, const char *why) {
@@ -72,7 +72,7 @@ static lonnatchi_swept sweep(const uint8_t *book, size_t book_len, const uint8_t
     *tokens = malloc(room * sizeof **tokens);
     if (!*ends || !*tokens) stop("hits", "no memory");
     lonnatchi_swept swept = lonnatchi_sweep(book, book_len, image, image_len, parent, ENTRIES, label, ENTRIES, token, ENTRIES, first_child,
-                                            ENTRIES, next_sibling, ENTRIES, *ends, room, *tokens, room);
+                                            ENTRIES, next_sibling, ENTRIES, shift, ENTRIES, *ends, room, *tokens, room);
     if (swept.refusal != 12) return swept;
     free(*ends), free(*tokens);
     return sweep(book, book_len, image, image_len, ends, tokens, swept.value);
@@ -84,7 +84,7 @@ int main(int many, char **names) {
     uint8_t *book = content(many == 3 ? names[1] : "book.bin", &book_len);
     uint8_t *image = content(many == 3 ? names[2] : "image.bin", &image_len);
     lonnatchi_built built = lonnatchi_build(book, book_len, parent, ENTRIES, label, ENTRIES, token, ENTRIES, first_child, ENTRIES,
-                                            next_sibling, ENTRIES);
+                                            next_sibling, ENTRIES, shift, ENTRIES);
     if (built.refusal) return refuse(built.refusal, built.value);
     uint32_t *ends, *tokens;
     lonnatchi_swept swept = sweep(book, book_len, image, image_len, &ends, &tokens, 1000);

@@ -5,13 +5,13 @@
  *  - each pointer has as many entries as its length says, and is aligned as its type asks;
  *  - the tables and hit buffers do not overlap each other, the book or the image;
  *  - no other thread changes them during the call.
- * lonnatchi_sweep needs about 200 KB of stack, lonnatchi_build a few KB.
+ * lonnatchi_sweep needs about 200 KB of stack, lonnatchi_build about 35 KB.
  *
  * Parameters, each with its length beside it, counted in entries and not in bytes:
  *   book                                        the revocation book's bytes, its closing 00h included; read only
  *   image                                       the machine's memory; read only
- *   parent, label, token, first_child, next_sibling   the five tables, one entry a node. 1 + the book's body bytes, those of reverses
- *                                               included, are enough, and 16,385 for any book; the lengths may differ
+ *   parent, label, token, first_child,          the six tables, one entry a node. 1 + the book's body bytes, those of reverses
+ *   next_sibling, shift                         included, are enough, and 16,385 for any book; the lengths may differ
  *   ends, tokens                                the hit buffers; any lengths, also 0, and they may differ
  *
  * A token of 4, 7 or 10 bytes is a card number: it occurs in book order or reversed, and both orders count toward the body bytes, one that
@@ -48,12 +48,14 @@ typedef struct {
     uint64_t refusal, value, nodes, shortest, longest;
 } lonnatchi_built;
 
-/* Builds the five tables of the book, one entry a node: its parent, its label, the token that ends there in one of its orders (0:
- * none), its first child and its next sibling (0: none). Entries behind the last node stay as they are; so does every entry on a refusal
- * (1 to 7). */
+/* Builds the six tables of the book, one entry a node: its parent, its label, the token that ends there in one of its orders (0: none),
+ * its first child and its next sibling (0: none), and its shift. That is how far the sweep may move on when it has matched the node's
+ * bytes: the least number of places, at least 1, after which some token, in one of its orders, agrees with all of these bytes that it lies
+ * over; it is the shortest token's length at most. Entries behind the last node stay as they are; so does every entry on a refusal (1 to
+ * 7). */
 lonnatchi_built lonnatchi_build(const uint8_t *book, size_t book_len, uint16_t *parent, size_t parent_len, uint8_t *label,
                                 size_t label_len, uint16_t *token, size_t token_len, uint16_t *first_child, size_t first_child_len,
-                                uint16_t *next_sibling, size_t next_sibling_len);
+                                uint16_t *next_sibling, size_t next_sibling_len, uint16_t *shift, size_t shift_len);
 
 /* The numbers of hits, of bytes fetched, and of bytes spared: those that the sweep looked at and took from what it remembers, instead of
  * fetching them again. */
@@ -68,7 +70,7 @@ typedef struct {
 lonnatchi_swept lonnatchi_sweep(const uint8_t *book, size_t book_len, const uint8_t *image, size_t image_len, uint16_t *parent,
                                 size_t parent_len, uint8_t *label, size_t label_len, uint16_t *token, size_t token_len,
                                 uint16_t *first_child, size_t first_child_len, uint16_t *next_sibling, size_t next_sibling_len,
-                                uint32_t *ends, size_t ends_len, uint32_t *tokens, size_t tokens_len);
+                                uint16_t *shift, size_t shift_len, uint32_t *ends, size_t ends_len, uint32_t *tokens, size_t tokens_len);
 
 #ifdef __cplusplus
 }

@@ -1,7 +1,7 @@
 """Books to read and to build tables from, and pairs of books to merge.
 
-A case is a book, the lengths of the five tables, the number of a token to place, the damage done to the tables before they are tested
-(which table, 5 for none; the entry; the value put there), and the node count of the test. `causes` names what a case meets, `wanted` all that
+A case is a book, the lengths of the six tables, the number of a token to place, the damage done to the tables before they are tested
+(which table, 6 for none; the entry; the value put there), and the node count of the test. `causes` names what a case meets, `wanted` all that
 the cases must meet.
 """
 import random
@@ -9,6 +9,7 @@ import random
 import tables
 
 KINDS = {size: kind for kind, size in tables.LENGTHS.items()}
+SMALL = 200  # the most body bytes of a book whose shifts are also found by trying each one
 
 
 def record(body):
@@ -43,17 +44,18 @@ def filled(left):
 
 def undamaged(bodies, room):
     """The book of these bodies, and tables with room for so many entries, of which all nodes are tested."""
-    return book_of(bodies), [room] * 5, len(bodies), (5, 0, 0), len(tables.build(bodies)[0])
+    return book_of(bodies), [room] * 6, len(bodies), (6, 0, 0), len(tables.build(bodies)[0])
 
 
 def limits():
     """The largest books, and one token more."""
-    full = [16385] * 5
-    none = (5, 0, 0)
+    full = [16385] * 6
+    none = (6, 0, 0)
     long = [numbered(i, 1024) for i in range(16)]
     yield book_of(long), full, 16, none, 16385
     yield book_of(long + [b"x"]), full, 1, none, 1
     yield book_of(long), [16384] + full[1:], 1, none, 1
+    yield book_of(long), full[1:] + [16384], 1, none, 1
     many = [numbered(i, 64) for i in range(256)]
     yield book_of(many), full, 256, none, 16385
     small = [numbered(i, 2) for i in range(256)]
@@ -123,10 +125,10 @@ def repeats():
     """Such bodies, which are no repeats; then with the last a word of the first, of a middle one, and of the one before it."""
     for bodies in nearly_equal():
         need = 1 + tables.body_bytes(bodies)
-        yield book_of(bodies), [need] * 5, len(bodies), (5, 0, 0), need
+        yield book_of(bodies), [need] * 6, len(bodies), (6, 0, 0), need
         for k in sorted({0, (len(bodies) - 1) // 2, len(bodies) - 2}):
             for word in tables.words(bodies[k]):
-                yield book_of(bodies[:-1] + [word]), [need] * 5, 1, (5, 0, 0), 1
+                yield book_of(bodies[:-1] + [word]), [need] * 6, 1, (6, 0, 0), 1
 
 
 def backwards():
@@ -153,6 +155,48 @@ def both_orders():
         need = 1 + tables.body_bytes(bodies)
         for room in sorted({need, need - 1, 1 + sum(map(len, bodies))}):
             yield undamaged(bodies, room)
+
+
+# Books, and of their nodes in order rule 5's shifts, found by hand: a word that ends as it begins; tokens within others, at the end and in
+# the middle; words that repeat a part of themselves; endings that a word moved to the right agrees with only in part; card numbers.
+SHIFTS = (
+    ([b"a"], [1, 1]),
+    ([b"ab", b"b"], [1, 1, 1]),
+    ([b"abbbba"], [1, 5, 5, 5, 5, 5, 5]),
+    ([b"baab", b"ab"], [1, 2, 2, 2, 2]),
+    ([b"xabcy", b"abc"], [1, 3, 3, 3, 3, 3, 1, 1, 1]),
+    ([b"abc", b"xabcy"], [1, 1, 1, 1, 3, 3, 3, 3, 3]),
+    ([b"aaaaaa"], [1, 1, 1, 1, 1, 1, 1]),
+    ([b"abcabcabc"], [1, 3, 3, 3, 3, 3, 3, 3, 3, 3]),
+    ([b"babaa"], [1, 1, 5, 5, 5, 5]),
+    ([b"abaab"], [1, 3, 3, 3, 3, 3]),
+    ([b"abcde"], [1, 5, 5, 5, 5, 5]),
+    ([b"bcxxx", b"yyabc"], [1, 1, 1, 5, 5, 5, 3, 3, 3, 3, 3]),
+    ([b"mnoab", b"abxyz", b"abpqrs"], [1, 3, 3, 3, 3, 3, 5, 5, 5, 5, 5, 5, 5, 5, 5, 5, 5]),
+    ([b"abcd"], [1, 3, 3, 3, 3, 3, 3, 3, 3]),
+    ([b"aabb"], [1, 1, 2, 2, 2, 1, 2, 2, 2]),
+    ([b"abbaabb"], [1, 1, 1, 1, 1, 1, 1, 1, 2, 3, 3, 3, 3, 3, 3]),
+)
+
+
+def all_but_one(count, size, place):
+    """Bodies of one byte over and over, but for the one at a place, which counts up."""
+    return [b"\xff" * place + bytes([i]) + b"\xff" * (size - 1 - place) for i in range(count)]
+
+
+def shifts():
+    """Such books, with tables that have just room, and with entries behind the last node; and with an entry too few in each table alone.
+    Then books whose tokens without their last bytes are found far down the tree, or behind many siblings."""
+    for bodies, by_hand in SHIFTS:
+        assert tables.build(bodies)[5] == by_hand
+        need = 1 + tables.body_bytes(bodies)
+        yield undamaged(bodies, need)
+        yield undamaged(bodies, need + 3)
+        for k in range(6):
+            book, lengths, *rest = undamaged(bodies, need)
+            yield book, lengths[:k] + [need - 1] + lengths[k + 1 :], *rest
+    for count, size, place in ((16, 512, 0), (256, 64, 62), (64, 16, 8)):
+        yield undamaged(all_but_one(count, size, place), 1 + count * size)
 
 
 def few_bodies(rng):
@@ -193,14 +237,14 @@ def arbitrary(rng):
         bodies = tables.distinct(bodies)
     book = damaged(rng, book_of(bodies))
     own, need = 1 + sum(map(len, bodies)), 1 + tables.body_bytes(bodies)
-    lengths = [max(0, need + rng.choice([0, 0, 0, 1, 3])) for _ in range(5)]
+    lengths = [max(0, need + rng.choice([0, 0, 0, 1, 3])) for _ in range(6)]
     if rng.random() < 0.2:
-        lengths[rng.randrange(5)] = rng.choice([own, need - 1, rng.randint(0, need)])
+        lengths[rng.randrange(6)] = rng.choice([own, need - 1, rng.randint(0, need)])
     reading = tables.read(book)
     nodes = len(tables.build(reading[1])[0]) if reading[0] == "accepted" else 1
     count = nodes + rng.choice([0, 0, 0, 0, 1, -1])
-    value = rng.choice([0, 0, 1, 2, nodes - 1, nodes, 256, 257, rng.randint(0, nodes)])
-    damage = (rng.randrange(6), rng.randint(0, nodes), value)
+    value = rng.choice([0, 0, 1, 2, nodes - 1, nodes, 256, 257, 1024, 1025, 65535, rng.randint(0, nodes)])
+    damage = (rng.randrange(7), rng.randint(0, nodes), value)
     return book, lengths, rng.randint(0, len(bodies) + 1), damage, max(0, count)
 
 
@@ -209,6 +253,7 @@ def cases():
     yield from word_limits()
     yield from repeats()
     yield from both_orders()
+    yield from shifts()
     rng = random.Random(11)
     for _ in range(400):
         yield arbitrary(rng)
@@ -251,11 +296,53 @@ def built(bodies, room):
     yield from (f"{len(body)} bytes that read the same backwards" for body in bodies if body[::-1] == body)
 
 
+# What a word can be that, moved by a node's shift, agrees with its ending: it lies over all of it, or over its last bytes alone, and so on.
+MADE = (
+    "a word over all", "a word over a part", "a word short of two bytes", "its own token", "another token", "a reverse", "a longer token",
+)
+
+
+def makers(bodies, words, ending, s):
+    """What each word is that makes the shift s of an ending."""
+    for word in words:
+        if tables.agrees(word, s, ending):
+            bare, own = len(ending) - (len(word) - s), word.endswith(ending)
+            holds = (bare <= 0, bare > 0, bare > 1, own, not own, word not in bodies, len(word) > min(map(len, bodies)))
+            yield {name for name, met in zip(MADE, holds) if met}
+
+
+def shift_causes(bodies):
+    """What the shifts of the nodes come from, and what makes one alone."""
+    words, shortest = [word for _, word in tables.spelled(bodies)], min(map(len, bodies))
+    yield from ["S of 1"] * (shortest == 1)
+    for ending in {word[k:] for word in words for k in range(len(word))}:
+        s, above = (tables.node_shift(words, x) for x in (ending, ending[1:]))
+        yield from ["a shift greater than its parent's"] * (s > above and len(ending) > 1)
+        if s < shortest:
+            yield from (f"a shift by {name} alone" for name in set.intersection(*makers(bodies, words, ending, s)))
+            yield from ["a shift of S - 1"] * (s == shortest - 1)
+        else:
+            yield from ["a shift of S"] * (shortest > 1)
+
+
+def short_causes(need, lengths):
+    """Which table alone is too short."""
+    for name, n in zip(tables.NAMES, lengths):
+        if n < need <= sorted(lengths)[1]:
+            yield f"7 by {name} alone"
+            yield from [f"7 by {name} alone, by one entry"] * (n == need - 1)
+
+
 def causes(book, lengths, *_):
-    """What a case meets, by name, where reverses count or could."""
+    """What a case meets, by name, where reverses count or could; by tables that are too short, and in the sixth table of a small book."""
     reading = tables.read(book)
     if reading[0] == "accepted":
+        need = 1 + tables.body_bytes(reading[1])
         yield from built(reading[1], min(lengths))
+        yield from short_causes(need, lengths)
+        if need <= min(lengths) and need <= SMALL:
+            yield from shift_causes(reading[1])
+            yield from ["entries behind the last node"] * (min(lengths) > need)
     elif reading[1] in (4, 5):
         before, body = refused_at(book, reading[2])
         yield from over(before, body) if reading[1] == 5 else [f"4 by the reverse of {len(body)} bytes"] * reversed_in(before, body)
@@ -265,6 +352,9 @@ def wanted():
     yield from ("5 by a token that has a reverse", "5 by a reverse", "5 by a reverse, by one byte", "5 by a body that reads the same backwards")
     yield from ("5 before 4, by a reverse", "5 before 4", "7 by a reverse", "7 by a reverse, by one entry", "room for the words alone")
     yield from ("256 tokens with reverses", "16,384 body bytes with reverses")
+    yield from (f"7 by {name} alone{how}" for name in tables.NAMES for how in ("", ", by one entry"))
+    yield from (f"a shift by {name} alone" for name in MADE)
+    yield from ("a shift of S", "a shift of S - 1", "S of 1", "a shift greater than its parent's", "entries behind the last node")
     for n in range(3, 12):
         yield f"4 by the reverse of {n} bytes" if n in tables.BOTH_ORDERS else f"{n} bytes and their reverse"
         yield f"{n} bytes that read the same backwards"

@@ -21,7 +21,7 @@ import tables
 from fits import FAR
 from proved import BYTES, ENTRIES, NUMBERS, Byte, Lent
 
-COUNTS = (813, 2387, 32230, 319, 18581, 9969, 67465)  # books, states, steps from them, lists, their calls, images, questions about them
+COUNTS = (945, 3294, 49250, 319, 18581, 9970, 67468)  # books, states, steps from them, lists, their calls, images, questions about them
 FRESH = (3000, 2000, 800, 1000, 15000)  # random books, states, whole sweeps, lists, and images
 FILL = 0xA5  # in lent tables
 BEHIND = [7, 0, 2**64 - 1]  # behind the numbers of a state
@@ -92,6 +92,15 @@ def tried(book):
     yield from (b"", b"a", b"not there", book, book[1:], book[-2:], bytes(1024))
 
 
+def two_ways(bodies, built):
+    """The shifts of a small book's nodes are those found by trying each shift with each word."""
+    words = [word for _, word in tables.spelled(bodies)]
+    if tables.body_bytes(bodies) <= books.SMALL:
+        for v, shift in enumerate(built[5]):
+            if shift != tables.node_shift(words, steps.ending(built, v)):
+                raise Differs(f"the plain readings differ in the shift of node {v}, one has {shift}")
+
+
 def building(reading, lengths):
     """What building tells, and the tables then."""
     lists = [[FILL] * n for n in lengths]
@@ -101,7 +110,8 @@ def building(reading, lengths):
     if min(lengths) < need:
         return told(0, 7, need), lists
     built = tables.build(reading[1])
-    for k in range(5):
+    two_ways(reading[1], built)
+    for k in range(6):
         lists[k][: len(built[k])] = built[k]
     return told(1, len(built[0]), min(sizes), max(sizes)), lists
 
@@ -119,7 +129,7 @@ def book_case(book, lengths, i, damage, count):
     slices = lend([[FILL] * n for n in lengths])
     expect("probe_build", [lent, *slices], wanted, enumerate(lists, 1))
     which, at, value = damage
-    if which < 5 and at < lengths[which]:
+    if which < 6 and at < lengths[which]:
         lists[which][at] = value % 256 if which == 1 else value
         slices = lend(lists)
     broken = tables.first_break(lists, count)

@@ -5,7 +5,7 @@
 #include <stdlib.h>
 #include <string.h>
 
-enum { ENTRIES = 16385, GUARD = 64, BOOK = 20000, LIMIT = 16777216 };
+enum { TABLES = 6, ENTRIES = 16385, GUARD = 64, BOOK = 20000, LIMIT = 16777216 };
 
 static uint64_t seed = 0x9e3779b97f4a7c15u;
 static uint32_t some(void) {
@@ -107,14 +107,39 @@ static int read_book(const uint8_t *book, size_t len) {
     }
 }
 
-/* The tables: a node for each different ending as it first occurs; links by searching all nodes. */
-static uint32_t table[5][ENTRIES];
+/* Rule 5: a word, moved s to the right, agrees with byte x that k others lie right of. */
+static int agrees(const word *w, size_t s, size_t k, uint8_t x) {
+    return w->size <= k + s || w->bytes[w->size - 1 - (k + s)] == x;
+}
+
+/* The smallest shift at which some word agrees with the bytes before `end`, from the one that k others lie right of to the one that d - 1
+ * do; the shortest word's length where there is none. */
+static size_t least_shift(const uint8_t *end, size_t k, size_t d) {
+    for (size_t s = 1; s < told.shortest; s++)
+        for (const word *w = told.word; w < told.word + told.words; w++) {
+            size_t i = k;
+            while (i < d && agrees(w, s, i, end[-1 - (ptrdiff_t)i])) i++;
+            if (i == d) return s;
+        }
+    return told.shortest;
+}
+
+/* The tables: a node for each different ending as it first occurs; links by searching all nodes, shifts by trying all of them. */
+static uint32_t table[TABLES][ENTRIES];
 static size_t nodes;
 
 static size_t child(size_t node, uint8_t x) {
     for (size_t v = node + 1; v < nodes; v++)
         if (table[0][v] == node && table[1][v] == x) return v;
     return 0;
+}
+
+/* The node's ending is its labels up to the root, from left to right. */
+static size_t node_shift(size_t node) {
+    uint8_t ending[1024];
+    size_t d = 0;
+    for (; node; node = table[0][node]) ending[d++] = table[1][node];
+    return least_shift(ending + d, 0, d);
 }
 
 static void build(void) {
@@ -134,6 +159,7 @@ static void build(void) {
         for (size_t w = v + 1; w < nodes && !table[4][v]; w++)
             if (table[0][w] == table[0][v]) table[4][v] = w;
     }
+    for (size_t v = 0; v < nodes; v++) table[5][v] = node_shift(v);
 }
 
 /* The hits by comparing each word at each end, the longer word first. */
@@ -163,22 +189,9 @@ static void search(const uint8_t *image, size_t n) {
         }
 }
 
-/* Rule 5: a word, moved s to the right, agrees with byte x that k others lie right of. */
-static int agrees(const word *w, size_t s, size_t k, uint8_t x) {
-    return w->size <= k + s || w->bytes[w->size - 1 - (k + s)] == x;
-}
-
+/* Rule 5, where d bytes before `end` match, and the one left of them closed the round or nothing did. */
 static size_t shift(const uint8_t *end, size_t d, int closed) {
-    size_t node = 0, byte = closed ? 0 : 1;
-    for (size_t s = 1; s < told.shortest && !(node && byte); s++)
-        for (const word *w = told.word; w < told.word + told.words; w++) {
-            size_t k = 0;
-            while (k < d && agrees(w, s, k, end[-1 - (ptrdiff_t)k])) k++;
-            if (k == d && !node) node = s;
-            if (!byte && agrees(w, s, d, end[-1 - (ptrdiff_t)d])) byte = s;
-        }
-    if (!node) node = told.shortest;
-    if (!byte) byte = told.shortest;
+    size_t node = least_shift(end, 0, d), byte = closed ? least_shift(end, d, d + 1) : 1;
     return node > byte ? node : byte;
 }
 
@@ -220,34 +233,35 @@ static bill billed(const uint8_t *image, size_t n) {
 }
 
 /* Lends tables and buffers of these lengths to both calls, and compares. What the plain reading says of the book and the image stands. */
-static void compare(const uint8_t *book, size_t book_len, const uint8_t *image, size_t n, const size_t lens[5], size_t ends_len,
-                    size_t tokens_len, bill wanted) {
-    static const size_t widths[5] = {2, 1, 2, 2, 2};
-    static const char *const names[5] = {"parent", "label", "token", "first child", "next sibling"};
-    lent t[5], u[5], ends = lend(4, ends_len), tokens = lend(4, tokens_len);
+static void compare(const uint8_t *book, size_t book_len, const uint8_t *image, size_t n, const size_t lens[TABLES],
+                    size_t ends_len, size_t tokens_len, bill wanted) {
+    static const size_t widths[TABLES] = {2, 1, 2, 2, 2, 2};
+    static const char *const names[TABLES] = {"parent", "label", "token", "first child", "next sibling", "shift"};
+    lent t[TABLES], u[TABLES], ends = lend(4, ends_len), tokens = lend(4, tokens_len);
     size_t shortest = lens[0], number = told.refusal, value = told.value, room = ends_len < tokens_len ? ends_len : tokens_len;
-    for (int i = 0; i < 5; i++) {
+    for (int i = 0; i < TABLES; i++) {
         t[i] = lend(widths[i], lens[i]), u[i] = lend(widths[i], lens[i]);
         if (lens[i] < shortest) shortest = lens[i];
     }
     if (!number && shortest < 1 + told.total) number = 7, value = 1 + told.total;
     lonnatchi_built made = lonnatchi_build(book, book_len, data(&t[0]), lens[0], data(&t[1]), lens[1], data(&t[2]), lens[2],
-                                           data(&t[3]), lens[3], data(&t[4]), lens[4]);
+                                           data(&t[3]), lens[3], data(&t[4]), lens[4], data(&t[5]), lens[5]);
     same("build's refusal", made.refusal, number), same("build's value", made.value, value);
     same("nodes", made.nodes, number ? 0 : nodes), same("shortest", made.shortest, number ? 0 : told.shortest);
     same("longest", made.longest, number ? 0 : told.longest);
-    for (int i = 0; i < 5; i++) holds(names[i], &t[i], table[i], number ? 0 : nodes);
+    for (int i = 0; i < TABLES; i++) holds(names[i], &t[i], table[i], number ? 0 : nodes);
     if (!number && n > LIMIT) number = 8, value = LIMIT;
     size_t built = number ? 0 : nodes, noted = number ? 0 : hits < room ? hits : room;
     if (!number && hits > room) number = 12, value = hits;
     lonnatchi_swept r = lonnatchi_sweep(book, book_len, image, n, data(&u[0]), lens[0], data(&u[1]), lens[1], data(&u[2]), lens[2],
-                                        data(&u[3]), lens[3], data(&u[4]), lens[4], data(&ends), ends_len, data(&tokens), tokens_len);
+                                        data(&u[3]), lens[3], data(&u[4]), lens[4], data(&u[5]), lens[5], data(&ends), ends_len,
+                                        data(&tokens), tokens_len);
     same("sweep's refusal", r.refusal, number), same("sweep's value", r.value, value);
     same("hits", r.hits, number ? 0 : hits), same("fetched", r.fetched, number ? 0 : wanted.fetched);
     same("spared", r.spared, number ? 0 : wanted.spared);
-    for (int i = 0; i < 5; i++) holds(names[i], &u[i], table[i], built);
+    for (int i = 0; i < TABLES; i++) holds(names[i], &u[i], table[i], built);
     holds("ends", &ends, hit_end, noted), holds("tokens", &tokens, hit_token, noted);
-    for (int i = 0; i < 5; i++) give_back(&t[i]), give_back(&u[i]);
+    for (int i = 0; i < TABLES; i++) give_back(&t[i]), give_back(&u[i]);
     give_back(&ends), give_back(&tokens);
     calls++;
 }
@@ -263,7 +277,7 @@ static bill plainly(const uint8_t *book, size_t book_len, const uint8_t *image, 
 }
 
 /* Compares with hit buffers of every length from none to one more than enough, where hits are few; of some lengths, where they are many. */
-static void check(const uint8_t *book, size_t book_len, const uint8_t *image, size_t n, const size_t lens[5]) {
+static void check(const uint8_t *book, size_t book_len, const uint8_t *image, size_t n, const size_t lens[TABLES]) {
     bill wanted = plainly(book, book_len, image, n);
     size_t most = hits < 8 ? hits + 1 : 0;
     for (size_t i = 0; i <= most; i++)
@@ -337,7 +351,7 @@ static size_t random_book(uint32_t letters) {
 /* A small book, an image with its tokens in it; now and then a damaged book, or tables too short, some with room for the bodies alone. */
 static void random_case(void) {
     uint32_t letters = 1 + below(3);
-    size_t lens[5], n = below(2) ? below(40) : below(400), own = random_book(letters);
+    size_t lens[TABLES], n = below(2) ? below(40) : below(400), own = random_book(letters);
     for (size_t i = 0; i < n; i++) image[i] = 'a' + below(letters);
     for (size_t k = below(4), at = 0; k && at < book_len; k--) {
         size_t size = book[at] <= 64 ? book[at] : 128;
@@ -347,7 +361,7 @@ static void random_case(void) {
     if (!below(4)) book_len = below(book_len + 1);
     if (!below(4) && book_len) book[below(book_len)] = below(3) ? below(70) : some();
     if (!below(8)) book[book_len++] = some();
-    for (int i = 0; i < 5; i++) lens[i] = below(6) ? 700 + below(100) : below(4) ? below(600) : 1 + own;
+    for (int i = 0; i < TABLES; i++) lens[i] = below(6) ? 700 + below(100) : below(4) ? below(600) : 1 + own;
     check(book, book_len, image, n, lens);
 }
 
@@ -378,7 +392,7 @@ static size_t nested_image(const uint8_t body[64], uint32_t letters) {
 
 /* Tokens inside tokens, and hit buffers that end within the hits of one end: the shorter one has every small length, and some others. */
 static void nested_case(void) {
-    static const size_t lens[5] = {700, 700, 700, 700, 700};
+    static const size_t lens[TABLES] = {700, 700, 700, 700, 700, 700};
     uint8_t body[64];
     uint32_t letters = 1 + below(3);
     for (size_t i = 0; i < sizeof body; i++) body[i] = 'a' + below(letters);
@@ -391,8 +405,23 @@ static void nested_case(void) {
     }
 }
 
+/* An accepted book, with each table in turn an entry too short, and none. */
+static void short_cases(void) {
+    size_t lens[TABLES], n = 40;
+    bill wanted;
+    do {
+        random_book(2);
+        for (size_t i = 0; i < n; i++) image[i] = 'a' + below(2);
+        wanted = plainly(book, book_len, image, n);
+    } while (told.refusal);
+    for (int i = 0; i <= TABLES; i++) {
+        for (int k = 0; k < TABLES; k++) lens[k] = 1 + told.total - (k == i);
+        compare(book, book_len, image, n, lens, hits, hits, wanted);
+    }
+}
+
 static void full(size_t n) {
-    static const size_t lens[5] = {ENTRIES, ENTRIES, ENTRIES, ENTRIES, ENTRIES};
+    static const size_t lens[TABLES] = {ENTRIES, ENTRIES, ENTRIES, ENTRIES, ENTRIES, ENTRIES};
     check(book, book_len, image, n, lens);
 }
 
@@ -410,6 +439,18 @@ static void every_length(int falling) {
     full(1100);
 }
 
+/* A book of tokens of one byte over and over, but for the one at a place, which counts up. */
+static void all_but_one(size_t count, size_t size, size_t place) {
+    uint8_t body[1024];
+    book_len = 0;
+    for (size_t i = 0; i < count; i++) {
+        memset(body, 255, size);
+        body[place] = i;
+        add(body, size);
+    }
+    book[book_len++] = 0;
+}
+
 /* 20,000 random bytes with the book's first token, of this size, in either order. */
 static void random_image(size_t size) {
     for (size_t i = 0; i < 20000; i++) image[i] = some();
@@ -419,7 +460,7 @@ static void random_image(size_t size) {
 /* More bytes spared than 32 bits count: "b", and "b" before 1,023 times "a", in an image of "a" alone. The round at boundary b looks at b
  * bytes, or at 1,024 if b is more, so the bytes fetched and spared are known in all. */
 static void billions(size_t n) {
-    static uint16_t t[4][ENTRIES];
+    static uint16_t t[TABLES - 1][ENTRIES];
     static uint8_t labels[ENTRIES], body[1024];
     static uint32_t none[2];
     memset(body, 'a', sizeof body), body[0] = 'b';
@@ -428,16 +469,12 @@ static void billions(size_t n) {
     book[book_len++] = 0;
     memset(image, 'a', n);
     lonnatchi_swept r = lonnatchi_sweep(book, book_len, image, n, t[0], ENTRIES, labels, ENTRIES, t[1], ENTRIES, t[2], ENTRIES, t[3], ENTRIES,
-                                        none, 0, none + 1, 0);
+                                        t[4], ENTRIES, none, 0, none + 1, 0);
     same("refusal", r.refusal, 0), same("hits", r.hits, 0), same("looks", r.fetched + r.spared, 1024 * (uint64_t)n - 1023 * 512);
     same("spared past 32 bits", r.spared >> 32, 1);
 }
 
-int main(void) {
-    image = malloc(LIMIT + 1);
-    for (int i = 0; i < 4000; i++) random_case();
-    for (int i = 0; i < 300; i++) nested_case();
-    every_length(0), every_length(1);
+static void largest_books(void) {
     /* The largest books, one token more, and 256 and 257 tokens; the last one is the first reversed, and 5 comes before 4. */
     static const size_t many[] = {16, 17, 256, 257, 256, 256, 257, 256}, size[] = {1024, 1024, 8, 8, 64, 7, 7, 7};
     for (int i = 0; i < 8; i++) {
@@ -456,6 +493,18 @@ int main(void) {
         random_image(10);
         full(20000);
     }
+    /* Tokens that, without their last bytes, are found far down the tree, or behind many siblings. */
+    all_but_one(16, 1024, 0), random_image(1024), full(20000);
+    all_but_one(256, 64, 62), random_image(64), full(20000);
+}
+
+int main(void) {
+    image = malloc(LIMIT + 1);
+    for (int i = 0; i < 4000; i++) random_case();
+    for (int i = 0; i < 300; i++) nested_case();
+    for (int i = 0; i < 100; i++) short_cases();
+    every_length(0), every_length(1);
+    largest_books();
     /* The largest image, and one byte more: first of one letter, then random. */
     for (int i = 0; i < 2; i++) {
         book_len = 0;

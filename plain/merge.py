@@ -135,7 +135,7 @@ def wanted():
 
 def room_for(book):
     """Tables with just room for this book."""
-    return calls.lend([[0] * (1 + tables.body_bytes(tables.read(book)[1]))] * 5)
+    return calls.lend([[0] * (1 + tables.body_bytes(tables.read(book)[1]))] * 6)
 
 
 def by_bytes(book, image):

@@ -1,8 +1,9 @@
 """The sweep by single bytes and by packets, plainly, from the papers alone, and states to step from.
 
-A case is five tables, a state and the calls made from it: CARRY to carry on, a byte to supply, or a packet, which is a run of bytes. `seen`
+A case is six tables, a state and the calls made from it: CARRY to carry on, a byte to supply, or a packet, which is a run of bytes. `seen`
 counts the causes of refusals 9, 10, 11 and 15, the ends of ranges, the kinds of answers, the ways packets ended, how remembered bytes were
-taken and what reverses made that calls met; `wanted` names those that some case must meet.
+taken, what reverses made and how the entries of the sixth table were followed that calls met; `wanted` names those that some case must
+meet.
 """
 import collections
 import copy
@@ -12,10 +13,11 @@ import random
 import tables
 
 CARRY = 256
-NODES, IMAGE, BODY, RUN = 16385, 16777216, 1024, 64
+NODES, IMAGE, BODY, RUN = 16385, 16777216, tables.LONGEST, 64
 MOST, SPARED = 1000000000, 20000000000  # the counts of bytes supplied and of bytes spared stop here
 SIZE = 26  # numbers of a state
-TABLES = ("parent", "label", "token", "first child", "next sibling")
+TABLES = tables.NAMES
+ROOT = ("parent", "label", "token", "next sibling")  # what is 0 of the root
 
 # What the cases met, by name.
 seen = collections.Counter()
@@ -92,10 +94,14 @@ def at_remembered(lists, s):
     return s.hit == 0 and s.boundary <= s.image and lists[3][s.node] > 0 and recall(lists, s, s.boundary - 1 - s.depth) is not None
 
 
+def words_of(lists, count, left_out=frozenset()):
+    """The words of all nodes with a number but those left out."""
+    return [ending(lists, v) for v in range(count) if lists[2][v] and v not in left_out]
+
+
 def shifts(lists, s, closing, left_out=frozenset()):
-    """Rule 5: the node shift and the byte shift, by the words of all nodes with a number but those left out."""
-    words = [ending(lists, v) for v in range(s.count) if lists[2][v] and v not in left_out]
-    u = ending(lists, s.node)
+    """Rule 5 by the words of all nodes with a number but those left out: the node shift, whatever its entry is, and the byte shift."""
+    words, u = words_of(lists, s.count, left_out), ending(lists, s.node)
 
     def agrees(t, by, k, x):
         return k + by >= len(t) or t[len(t) - 1 - k - by] == x
@@ -106,6 +112,11 @@ def shifts(lists, s, closing, left_out=frozenset()):
     node = least(lambda t, by: all(agrees(t, by, k, u[len(u) - 1 - k]) for k in range(len(u))))
     byte = 1 if closing is None else least(lambda t, by: agrees(t, by, len(u), closing))
     return node, byte
+
+
+def shift_of(s, node, byte):
+    """The greater of a node shift and a byte shift, and S where that is less."""
+    return min(s.shortest, max(node, byte))
 
 
 def end_round(lists, s, last, closing=None):
@@ -119,8 +130,10 @@ def end_round(lists, s, last, closing=None):
     node = s.node
     for _ in range(s.depth - (b - left)):
         node = lists[0][node]
-    after = b + max(shifts(lists, s, closing))
-    note_shifts(lists, s, closing)
+    found = shifts(lists, s, closing)
+    after = b + shift_of(s, lists[5][s.node], found[1])
+    note_shifts(lists, s, closing, found)
+    note_stretches(lists, s, left_over + [[left, b, node]], found)
     stretches = [m for m in left_over + [[left, b, node]] if kept(after, m)]
     seen["rule 4: forgotten"] += len(left_over) < len(s.stretches())
     seen["rule 4: cut"] += left > start
@@ -202,12 +215,14 @@ def off(name, low, x, high):
 
 def node_causes(lists, count, v, depth):
     """The rules that node v breaks, where no node before it breaks one."""
-    parent, label, token, first, following = lists
+    parent, label, token, first, following, shift = lists
     if v == 0:
         for name, table in zip(TABLES, lists):
-            if name != "first child":
+            if name in ROOT:
                 yield from off(f"9: the root's {name}", 0, table[0], 0)
+        yield from off("9: the root's shift", 1, shift[0], BODY)
     else:
+        yield from off("9: shift", 1, shift[v], BODY)
         yield from off("9: parent", 0, parent[v], v - 1)
         yield from off("9: token number", 0, token[v], 256)
         yield from off("9: depth", 0, depth, BODY)
@@ -308,7 +323,8 @@ def range_causes(lists, s):
 # not 0 are one cause, as either alone breaks d's own range.
 ALONE = (
     *(f"9: table length, {name}, one below" for name in TABLES),
-    *(f"9: the root's {name} one above" for name in TABLES if name != "first child"),
+    *(f"9: the root's {name} one above" for name in ROOT),
+    *(f"9: {whose}shift {way}" for whose in ("", "the root's ") for way in ("one below", "one above", "far above")),
     "9: parent one above", "9: parent far above", "9: token number one above", "9: depth one above",
     "9: first child one above", "9: first child of another parent",
     "9: next sibling one below", "9: next sibling far below", "9: next sibling one above", "9: next sibling of another parent",
@@ -338,6 +354,8 @@ WITHIN = (
     "end with no hit left greatest", "hit's node least", "hit's node greatest", "hit's token least", "end least", "end greatest",
     "b's distance from the end least", "b's distance from the end greatest", "stretch's right with a hit left greatest",
     "three hits left", "68 hits left", "hits left with one token number", "a hit left when b > N", "four stretches and a hit left",
+    "the root's shift least", "the root's shift greatest", "shift least", "shift greatest",
+    "shift 0 behind the nodes", f"shift {BODY + 1} behind the nodes",
 )
 KINDS = ("carrying on", "supplying", "a packet")
 # How a round ends, and how its last byte came in; what a hit is, by whether one was left before the call, and one is after it.
@@ -364,13 +382,30 @@ def wanted():
         if (how, last) != ("a closing byte", "before the call"):
             yield from (f"{hits} of a round ended by {how}, its last byte {last}" for hits in ("hits", "no hit"))
     yield from wanted_of_packets()
-    yield from (f"9: shortest of 4, {name}" for name in TABLES)
+    yield from (f"9: shortest of {len(TABLES) - 1}, {name}" for name in TABLES)
     yield from (f"within: {what}" for what in WITHIN)
     yield from wanted_of_memory()
     yield from ("rule 4: forgotten", "rule 4: cut", "rule 6: not kept", "rule 6: just kept")
     yield from (f"rule 5: {what} that only a reverse makes" for what in SHIFTS)
+    yield from wanted_of_entries()
     yield from (f"{what}, of a reverse" for what in (*HITS[False], *HITS[True]))
     yield from ("hit of a reverse at an inner node", *(f"hit of a reverse, {kind}" for kind in KINDS))
+
+
+def entry_names():
+    """All that an entry from 1 on can be beside a node shift and a byte shift of 1 to S; by rule 5 the root's is 1."""
+    for shortest, entry, byte, alone in itertools.product(range(1, 5), range(1, 6), range(1, 5), (False, True)):
+        if byte <= shortest:
+            yield entry_name(True, entry, 1, byte, alone, shortest)
+            yield from (entry_name(False, entry, node, byte, alone, shortest) for node in range(1, shortest + 1))
+
+
+def wanted_of_entries():
+    yield from dict.fromkeys(entry_names())
+    yield from (f"rule 5: an entry with no token, {what}" for what in ("alone", "and a closing byte"))
+    yield from (f"rule 6: {which} {what} by an entry" for which in ("the new stretch", "one left over") for what in ("kept", "dropped"))
+    yield from (f"9: a shift {order} another cause" for order in ("before", "behind", "at the node of"))
+    yield from (f"9: shift {way}, at the last node" for way in ("one below", "one above", "far above"))
 
 
 def wanted_of_packets():
@@ -409,7 +444,17 @@ def note(causes, kind):
 def note_short(lists, count):
     """Which table is the shortest, where some are too short."""
     sizes = [len(table) for table in lists]
-    seen[f"9: shortest of {sum(n < count for n in sizes)}, {TABLES[sizes.index(min(sizes))]}"] += min(sizes) < count
+    seen[f"9: shortest of {sum(n < count for n in sizes)}, {TABLES[sizes.index(min(sizes))]}"] += 1
+
+
+def note_shift_break(lists, count, value, causes):
+    """Where the first shift out of its range stands to the first other cause, no table being too short."""
+    by_shift = next((v for v in range(count) if not 1 <= lists[5][v] <= BODY), None)
+    other = tables.first_break([*lists[:5], [1] * count], count)
+    if by_shift is not None and other is not None:
+        seen[f"9: a shift {'before' if by_shift < other else 'behind' if by_shift > other else 'at the node of'} another cause"] += 1
+    for cause in causes:
+        seen[f"{cause}, at the last node"] += value == count - 1
 
 
 def note_end(lists, s, last, closing):
@@ -418,12 +463,34 @@ def note_end(lists, s, last, closing):
         seen[f"{'hits' if s.hit else 'no hit'} of a round ended by {how}, its last byte {last}"] += holds
 
 
-def note_shifts(lists, s, closing):
-    """Which shifts would be greater without the words that are reverses."""
+def beside(x, y):
+    return "below" if x < y else "above" if x > y else "equal to"
+
+
+def entry_name(root, entry, node, byte, alone, shortest):
+    """How the entry at which a round ends lies to rule 5's own node shift, to the byte shift, if there is a closing byte, and to S."""
+    other = "alone" if alone else f"{beside(entry, byte)} the byte shift"
+    return f"rule 5: {'the root' if root else 'a node'}'s entry {beside(entry, node)} the rule's, {other}, {beside(entry, shortest)} S"
+
+
+def note_shifts(lists, s, closing, found):
+    """How the entry lies to the shifts that rule 5 finds, and which of these would be greater without the words that are reverses."""
+    alone = closing is None
+    seen[entry_name(s.node == 0, lists[5][s.node], *found, alone, s.shortest)] += 1
+    seen[f"rule 5: an entry with no token, {'alone' if alone else 'and a closing byte'}"] += not any(lists[2][: s.count])
     if s.reverses:
-        found, own = shifts(lists, s, closing), shifts(lists, s, closing, s.reverses)
+        own = shifts(lists, s, closing, s.reverses)
         for what, by, other in zip(SHIFTS, (*found, max(found)), (*own, max(own))):
             seen[f"rule 5: {what} that only a reverse makes"] += by < other
+
+
+def note_stretches(lists, s, stretches, found):
+    """Which stretches, the last one the new one, are kept by the entry and would not be by the rule's own shift, or the other way round."""
+    given, own = (s.boundary + shift_of(s, node, found[1]) for node in (lists[5][s.node], found[0]))
+    for m in stretches:
+        which = "the new stretch" if m is stretches[-1] else "one left over"
+        seen[f"rule 6: {which} kept by an entry"] += kept(given, m) > kept(own, m)
+        seen[f"rule 6: {which} dropped by an entry"] += kept(given, m) < kept(own, m)
 
 
 def follows(last, said):
@@ -494,15 +561,27 @@ def note_within(lists, s):
     seen["within: a node 1,024 deep"] += len(ending(lists, s.count - 1)) == BODY
     seen["within: token number 256"] += max(lists[2][: s.count]) == 256
     seen["within: entries behind the nodes"] += min(map(len, lists)) > s.count
+    note_shifts_within(lists[5], s.count)
     note_left(lists, s)
 
 
-def note_refusal(lists, state, kind, number, causes):
+def note_shifts_within(shift, count):
+    for x, end in ((1, "least"), (BODY, "greatest")):
+        seen[f"within: the root's shift {end}"] += shift[0] == x
+        seen[f"within: shift {end}"] += x in shift[1:count]
+    for x in (0, BODY + 1):
+        seen[f"within: shift {x} behind the nodes"] += x in shift[count:]
+
+
+def note_refusal(lists, state, kind, number, value, causes):
     """What led to the first of 9, 10 and 11, or to none of them."""
     early = out_of_turn(state, kind)
     note(causes, kind)
     if number == 9:
-        note_short(lists, state.count)
+        if min(map(len, lists)) < state.count:
+            note_short(lists, state.count)
+        else:
+            note_shift_break(lists, state.count, value, causes)
         seen[f"9 before 10, {kind}"] += state.shortest == 0
         seen[f"9 before 11, {kind}"] += early
     elif number == 10:
@@ -549,7 +628,7 @@ def refusal(lists, state, what):
         note_long(lists, state, number)
         number, value = 15, 0
     else:
-        note_refusal(lists, state, kind, number, causes)
+        note_refusal(lists, state, kind, number, value, causes)
     if kind == "a packet":
         seen[f"{number} with a packet of {len(what)} bytes"] += 1
     return number, value
@@ -683,12 +762,17 @@ EACH = [CARRY, 97, b"ab", b"", b"a" * RUN, b"a" * (RUN + 1)]
 def damaged():
     """Tables that refusal 9 must tell apart: a root, its child, three children of that, and a node that no chain leads to."""
     good = [[0, 0, 1, 1, 1, 0, 1], [0, 97, 98, 99, 100, 7, 7], [0, 0, 1, 2, 256, 0, 300], [1, 2, 0, 0, 0, 0, 9], [0, 0, 3, 4, 0, 0, 9]]
-    parent, label, token, first, following = range(5)
+    good.append([1, 2, 1, 2, 1024, 2, 0])
+    parent, label, token, first, following, shift = range(6)
     changes = [[], [(parent, 0, 1)], [(label, 0, 1)], [(token, 0, 1)], [(following, 0, 1)], [(first, 0, 0)], [(first, 0, 2)]]
     changes += [[(parent, 5, 5)], [(parent, 5, 6)], [(parent, 5, 4)], [(token, 5, 256)], [(token, 5, 257)], [(token, 5, 65535)]]
     changes += [[(first, 5, 5)], [(first, 5, 4)], [(first, 4, 5)], [(parent, 6, 4), (first, 4, 6)], [(first, 4, 6)], [(first, 4, 7)]]
     changes += [[(parent, 5, 4), (first, 4, 5)], [(following, 3, 3)], [(following, 3, 2)], [(following, 4, 5)], [(following, 4, 6)]]
     changes += [[(parent, 5, 1), (following, 4, 5)], [(following, 4, 7)], [(first, 1, 6), (following, 4, 9)]]
+    changes += [[(shift, v, x)] for v in (0, 1, 4, 5) for x in (0, 1, 1024, 1025, 1280, 65535)]  # 1,280 has 0 as its low byte
+    changes += [[(shift, 1, 0), (token, 2, 257)], [(shift, 4, 1025), (following, 3, 3)], [(shift, 0, 0), (label, 0, 1)]]
+    changes += [[(shift, 5, 1025), (parent, 5, 5)], [(shift, 0, 1025), (parent, 5, 6)], [(shift, 5, 0), (following, 0, 1)]]
+    changes += [[(shift, 2, 0), (shift, 4, 1025)], [(shift, 6, 1025)]]
     for change in changes:
         lists = copy.deepcopy(good)
         for k, at, value in change:
@@ -696,9 +780,9 @@ def damaged():
         yield lists, State(9, 2, 6), EACH
         yield lists, State(9, 2, 6, due=True), EACH
         yield lists, State(9, 2, 6, 4, end=3, hit=4), EACH + EACH
-    for k in range(5):
-        yield good[:k] + [good[k][:5]] + good[k + 1 :], State(9, 2, 6), EACH
-        yield [l[: 2 + (i + k) % 5] for i, l in enumerate(good)], State(9, 0, 6), EACH
+    for k in range(6):
+        yield from ((good[:k] + [good[k][:n]] + good[k + 1 :], State(9, 2, 6), EACH) for n in (5, 0))
+        yield [l[: 1 + (i + k) % 6] for i, l in enumerate(good)], State(9, 0, 6), EACH
     yield good, State(9, 2, 8), EACH
     spoilt = copy.deepcopy(good)
     spoilt[label][0] = 1
@@ -707,14 +791,14 @@ def damaged():
     yield spoilt, State(9, 2, 6, 4, end=3, hit=2**64 - 1), EACH
     deepest = chain(1024)
     yield deepest, State(2000, 1024, 1025), EACH
-    deeper = [l + [x] for l, x in zip(deepest, (1024, 97, 0, 0, 0))]
+    deeper = [l + [x] for l, x in zip(deepest, (1024, 97, 0, 0, 0, 1))]
     deeper[first][1024] = 1025
     yield deeper, State(2000, 1024, 1026), EACH
 
 
 def ranges():
     """Ranges at their ends and one further, over one token of 20 bytes and an entry behind it: node v is v deep."""
-    lists = [l + [x] for l, x in zip(chain(20), (20, 97, 0, 0, 0))]
+    lists = [l + [x] for l, x in zip(chain(20), (20, 97, 0, 0, 0, 0))]
     base = dict(image=30, shortest=20, count=21, boundary=25, slots=[(0, 20, 20), (20, 24, 4)])
     none, far = dict(slots=[]), 2**64 - 1
     for changes in (
@@ -751,7 +835,7 @@ LEFT = [97, b"a", CARRY, 98, CARRY, CARRY, 97, CARRY, CARRY, 97, 98, CARRY, b"aa
 def hits_left():
     """Hits left: their ranges at their ends and one further, over tokens inside tokens and an entry behind them that has a number too."""
     inner = tables.build([b"a" * n for n in INNER])
-    lists = [l + [x] for l, x in zip(inner, (40, 97, 6, 0, 0))]
+    lists = [l + [x] for l, x in zip(inner, (40, 97, 6, 0, 0, 1))]
     base = dict(image=60, shortest=8, count=41, boundary=45, slots=[(0, 40, 40), (40, 44, 4)], end=44, hit=20)
     none, far = dict(slots=[]), 2**64 - 1
     for changes in (
@@ -845,7 +929,7 @@ def packets():
 
 def large():
     """The node count at its ends and one further; as many stretches as a state can have, and one more; as many hits as can be left."""
-    flat = [[0] * (NODES + 2)] * 5
+    flat = [[0] * (NODES + 2)] * 5 + [[1] * (NODES + 2)]
     for count in (1, NODES, NODES + 1):
         yield flat, State(3, 1, count), EACH
     four = [(0, 500, 500), (500, 600, 100), (600, 620, 20), (620, 624, 4)]
@@ -858,21 +942,28 @@ def large():
     yield every, State(1023, 1, 1025, 1024, end=1023, hit=1024), EACH
 
 
+def shifted(lists):
+    """Five tables, and rule 5's shifts by the words of their nodes with a number."""
+    return [*lists, tables.node_shifts(words_of(lists, len(lists[0])), lists[0], lists[1])]
+
+
 def uneven():
     """Tables that no building made: no child, no token, siblings with one label, a token's bytes in one order alone, a node that no chain
     leads to, a number many times."""
-    yield [[0]] * 5, State(3, 1, 1), [CARRY, CARRY]
-    bare = [[0, 0], [0, 97], [0, 0], [1, 0], [0, 0]]
-    yield bare, State(5, 2, 2), [CARRY, 97, 97, 98, CARRY, 97]
-    yield bare, State(9, 2, 2), [CARRY, b"aa", b"a", b"ba", b"", b"a", b"aaa", b"ab"]
+    yield [[0]] * 5 + [[1]], State(3, 1, 1), [CARRY, CARRY]
+    for entries in ([1, 1], [1, 2], [2, 1], [1024, 1024]):
+        bare = [[0, 0], [0, 97], [0, 0], [1, 0], [0, 0], entries]
+        yield bare, State(5, 2, 2), [CARRY, 97, 97, 98, CARRY, 97]
+        yield bare, State(9, 2, 2), [CARRY, b"aa", b"a", b"ba", b"", b"a", b"aaa", b"ab"]
+        yield [[0]] * 5 + [entries[:1]], State(9, 4, 1), [CARRY, CARRY]
     mute = chain(20)
     mute[2] = [0] * 21
     yield mute, State(60, 5, 21, 25, due=True, slots=[(5, 24, 19)]), [b"aa", b"a" * 9, CARRY, b"a" * RUN]
-    twins = [[0, 0, 0], [0, 97, 97], [0, 1, 2], [1, 0, 0], [0, 2, 0]]
+    twins = shifted([[0, 0, 0], [0, 97, 97], [0, 1, 2], [1, 0, 0], [0, 2, 0]])
     yield twins, State(3, 1, 3), [CARRY, 97, CARRY, 97, CARRY, 98]
-    one_way = [[0, 0, 1, 2, 3], [0, *b"dcba"], [0, 0, 0, 0, 1], [1, 2, 3, 4, 0], [0] * 5]
+    one_way = shifted([[0, 0, 1, 2, 3], [0, *b"dcba"], [0, 0, 0, 0, 1], [1, 2, 3, 4, 0], [0] * 5])
     yield from (swept(one_way, [(1, b"abcd")], image)[:3] for image in (b"dcba", b"dcbaxdcbabcdcba"))
-    stray = [[0, 0, 1], [0, 97, 98], [0, 0, 3], [1, 0, 0], [0, 0, 0]]
+    stray = shifted([[0, 0, 1], [0, 97, 98], [0, 0, 3], [1, 0, 0], [0, 0, 0]])
     yield stray, State(6, 2, 3), [CARRY, 97, CARRY, 98, 97, 97, CARRY]
     yield stray, State(6, 2, 3), [CARRY, b"ab", b"ba", CARRY, b"aaa", b"a"]
     yield twins, State(3, 1, 3, 2, end=1, hit=2), [CARRY, 97, CARRY, 97]
@@ -883,6 +974,35 @@ def uneven():
         words = [(repeated[2][v], ending(repeated, v)) for v in carriers(repeated, 6)]
         yield from (swept(repeated, words, image)[:3] for image in (b"aaaaaaaaa", b"aabaaaaaabaaaa"))
         yield repeated, State(9, 4, 7, 9, end=6, hit=max(carriers(repeated, 6))), LEFT
+
+
+def other_entries(shifts, shortest):
+    """Entries that no building wrote: the same at each node, about S, with 0 as its low byte and at the ends of the range; one more or
+    less than the rule's; and some that fall towards the last node."""
+    for x in sorted({1, 2, shortest - 1, shortest, shortest + 1, 256, BODY} - {0}):
+        yield [x] * len(shifts)
+    yield [x + 1 for x in shifts]
+    yield [max(1, x - 1) for x in shifts]
+    yield [1 + (len(shifts) - v) % (shortest + 2) for v in range(len(shifts))]
+
+
+def given():
+    """Tables with such entries: whole sweeps, by single bytes and by packets; and states between rounds, within them, where they end, and
+    at the image's start, with an S of their own."""
+    for bodies, image, _ in SAMPLES:
+        lists, shortest, count = built(bodies)
+        for entries in other_entries(lists[5], shortest):
+            state = State(len(image), shortest, count)
+            for reply in (image.__getitem__, lambda place: run_at(image, place, 3)):
+                yield [*lists[:5], entries], state, followed([*lists[:5], entries], copy.deepcopy(state), reply)[0]
+    for lists, state, calls in standing():
+        if state.image == state.boundary:
+            for entries in other_entries(lists[5], state.shortest):
+                yield [*lists[:5], entries], state, calls
+    for bodies, run in (([b"abcabcabc", b"cab"], b"cbacbacbax"), ([b"a" * 9], b"axaaxaaax")):
+        lists, shortest, count = built(bodies)
+        for entries, s in itertools.product(other_entries(lists[5], shortest), (1, 2, 5, 9, BODY)):
+            yield [*lists[:5], entries], State(40, s, count, boundary=0), [CARRY, *run, CARRY, run[:4], run]
 
 
 SIZES = (0, 1, 1, 2, 2, 5, 5, 63, 64, 65, 100)  # of random packets
@@ -962,11 +1082,17 @@ def changed(rng, state):
 
 
 def some_tables(rng):
-    """A random book's tables, S and the count; sometimes damaged, with one number on several nodes, or with an entry behind the nodes."""
+    """A random book's tables, S and the count; sometimes with other shifts, damaged, with one number on several nodes, or with an entry
+    behind the nodes."""
     lists, shortest, count = built(some_bodies(rng))
+    if rng.random() < 0.5:
+        most = rng.choice([2, shortest, shortest + 2, BODY])
+        lists[5] = [rng.choice([x, rng.randint(1, most)]) for x in lists[5]]
     for _ in range(rng.choice([0, 0, 0, 1, 2])):
-        k, at = rng.randrange(5), rng.randrange(count)
+        k, at = rng.randrange(6), rng.randrange(count)
         lists[k][at] = rng.choice([0, 1, at, min(at + 1, count - 1), count - 1, rng.randrange(count)])
+    if rng.random() < 0.05:
+        lists[5][rng.randrange(count)] = rng.choice([0, BODY, BODY + 1, 65535])
     for _ in range(rng.choice([0, 0, 1, 4])):
         lists[2][rng.randrange(1, count)] = rng.choice([0, 1, 1, 2, 256])
     if rng.random() < 0.3:
@@ -1023,6 +1149,7 @@ def cases():
     yield from packets()
     yield from large()
     yield from uneven()
+    yield from given()
     rng = random.Random(5)
     for _ in range(300):
         yield arbitrary(rng)

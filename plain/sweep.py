@@ -73,18 +73,14 @@ def search(bodies, image):
 
 def shift(words, shortest, matched, closing):
     """Rule 5."""
-    d = len(matched)
+    d, node = len(matched), tables.node_shift(words, matched)
+    if closing is None:
+        return node
 
-    def least(agrees):
-        return next((s for s in range(1, shortest) if any(agrees(t, s) for t in words)), shortest)
+    def agrees(t, s):
+        return len(t) <= d + s or t[len(t) - 1 - d - s] == closing
 
-    def over(t, s):
-        n = min(d, len(t) - s)
-        return t[len(t) - s - n : len(t) - s] == matched[d - n :]
-
-    node = least(over)
-    byte = 1 if closing is None else least(lambda t, s: len(t) <= d + s or t[len(t) - 1 - d - s] == closing)
-    return max(node, byte)
+    return max(node, next((s for s in range(1, shortest) if any(agrees(t, s) for t in words)), shortest))
 
 
 def endings_of(words):

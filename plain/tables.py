@@ -1,6 +1,8 @@
 """Books and tree tables, plainly, from the papers alone: what the proved calls are compared with."""
 
+NAMES = ("parent", "label", "token", "first child", "next sibling", "shift")  # of the tables, in their order
 LENGTHS = {k: k for k in range(1, 65)} | {65: 128, 66: 256, 67: 512, 68: 1024}
+LONGEST = 1024  # the most bytes of a body, and so the greatest depth and shift of a node
 BOTH_ORDERS = (4, 7, 10)  # tokens of so many bytes stand in an image in either byte order
 
 
@@ -110,8 +112,52 @@ def merge(first, second, room):
     return ("accepted", book) if len(book) <= room else ("refused", 14, len(book))
 
 
+def agrees(word, s, ending):
+    """Whether a word, moved s to the right, agrees with every byte of an ending that it lies over."""
+    over = max(0, min(len(word) - s, len(ending)))
+    return word[len(word) - s - over : len(word) - s] == ending[len(ending) - over :]
+
+
+def node_shift(words, ending):
+    """Rule 5's node shift of an ending, by trying each shift with each word."""
+    shortest = min(map(len, words))
+    return next((s for s in range(1, shortest) if any(agrees(word, s, ending) for word in words)), shortest)
+
+
+def parted(moved, d):
+    """Of words with their shifts, which agree with an ending of d bytes: the shifts of those that lie over no byte left of it, and the
+    others by the byte that they have there."""
+    at_end, going_on = [], {}
+    for one in moved:
+        s, word = one
+        left = len(word) - s - d
+        if left:
+            going_on.setdefault(word[left - 1], []).append(one)
+        else:
+            at_end.append(s)
+    return at_end, going_on
+
+
+def node_shifts(words, parent, label):
+    """The node shifts of all nodes of a tree with these words, from each node to its children: a word that agrees with a node's ending also
+    agrees with its parent's, and left of that it has the node's label or lies over nothing."""
+    shortest = min(map(len, words))
+    shifts, depths, least_at_end, going_on = [], [], [], []
+    for v, (up, byte) in enumerate(zip(parent, label)):
+        if v == 0:
+            depth, least, moved = 0, shortest, [(s, word) for s in range(1, shortest) for word in words]
+        else:
+            depth, least, moved = depths[up] + 1, least_at_end[up], going_on[up].get(byte, [])
+        at_end, others = parted(moved, depth)
+        shifts.append(min([least, *(s for s, _ in moved)]))
+        depths.append(depth)
+        least_at_end.append(min([least, *at_end]))
+        going_on.append(others)
+    return shifts
+
+
 def build(bodies):
-    """The five tables, as lists: nodes are endings of words in order of first occurrence."""
+    """The six tables, as lists: nodes are endings of words in order of first occurrence."""
     nodes = {b"": 0}
     for _, word in spelled(bodies):
         for k in range(1, len(word) + 1):
@@ -130,7 +176,7 @@ def build(bodies):
         last[up] = v
     for number, word in spelled(bodies):
         tok[nodes[word]] = number
-    return [parent, label, tok, first, following]
+    return [parent, label, tok, first, following, node_shifts([word for _, word in spelled(bodies)], parent, label)]
 
 
 def walk(label, following, count, at, byte):
@@ -148,9 +194,11 @@ def first_break(tables, count):
     shortest = min(map(len, tables))
     if shortest < count:
         return shortest
-    parent, label, tok, first, following = tables
+    parent, label, tok, first, following, shift = tables
     depth = [0] * count
     for v in range(count):
+        if not 1 <= shift[v] <= LONGEST:
+            return v
         if v == 0:
             if parent[0] or label[0] or tok[0] or following[0]:
                 return 0
@@ -158,7 +206,7 @@ def first_break(tables, count):
             if parent[v] >= v or tok[v] > 256:
                 return v
             depth[v] = depth[parent[v]] + 1
-            if depth[v] > 1024:
+            if depth[v] > LONGEST:
                 return v
         for link, p in ((first[v], v), (following[v], parent[v])):
             if link and not (v < link < count and parent[link] == p):

@@ -1,15 +1,11 @@
--- Rule 5 for one word: what each shift hands to the test, and the least shift of some words.
+-- Rule 5 for one word: what the byte shift hands to the test, and the least shift of some words.
 use Prim.Native.Nat.{ℕ, _+_, _-_}
 use mathlib.Core.Bool.{Bool}
 use mathlib.Core.List.{List, [], _∷_}
 use Rattle.rules.specs.Lists.{anyOf, least}
 use Rattle.rules.specs.Tokens.{fits}
 
--- The word w, moved s to the right, fits the matched bytes u.
-abbrev pub nodeTest : List ℕ → List ℕ → ℕ → Bool
-nodeTest u w s = fits u w s
-
--- It fits the byte x, that d matched ones lie right of, alone.
+-- The word w, moved s to the right, fits the byte x, that d matched ones lie right of.
 abbrev pub byteTest : ℕ → ℕ → List ℕ → ℕ → Bool
 byteTest d x w s = fits (x ∷ []) w (d + s)
 

@@ -1,9 +1,9 @@
-// Rule 5 for one word: where it stops fitting what is known of the image, and the smallest way to the right by which it fits.
+// Rule 5 for one word: where it stops fitting what is known of the image, and the smallest way to the right by which it fits a closing byte.
 ghost use Prim.Native.Nat.{_-_};
 ghost use mathlib.Core.Path.{_≡_};
 ghost use Rattle.rules.specs.Lists.{least};
 ghost use Rattle.rules.specs.Tokens.{mismatch, fits};
-ghost use Rattle.agree.specs.Tests.{nodeTest, byteTest};
+ghost use Rattle.agree.specs.Tests.{byteTest};
 ghost use Rattle.agree.specs.Answers.{testedOf};
 
 // What the test of a word against known bytes answers: it fits, or it differs at the place with so many known bytes right of it, and at none
@@ -44,21 +44,8 @@ fn fits(body: &[u8], s: usize, known: &[u8]) -> bool
     }
 }
 
-// The smallest s from 1 below `best` at which the word fits the matched bytes; `best` where there is none, and 1 where that is 0.
-pub fn node_least(body: &[u8], matched: &[u8], best: usize) -> usize
-    ensures { λ r. ⌜ r ≡ least (nodeTest (now (matched .entry)) (now (body .entry))) 1 (best - 1) ⌝ }
-{
-    let mut s = 1;
-    while s < best {
-        if fits(body, s, matched) {
-            return s;
-        }
-        s += 1;
-    }
-    s
-}
-
-// The same for the byte x left of `depth` matched ones alone: those of the word that can come to lie over it are left of its last `depth`.
+// The smallest s from 1 below `best` at which the word fits the byte x left of `depth` matched ones; `best` where there is none, and 1 where
+// that is 0. Those of its bytes that can come to lie over x are left of its last `depth`.
 pub fn byte_least(body: &[u8], depth: usize, x: u8, best: usize) -> usize
     ensures { λ r. ⌜ r ≡ least (byteTest depth x (now (body .entry))) 1 (best - 1) ⌝ }
 {

@@ -68,7 +68,7 @@ samples-hold = refl
 abbrev made : Building
 made =
     let nines : List ℕ = replicate 4 9 in
-    build (1 ∷ a ∷ 2 ∷ a ∷ a ∷ 0 ∷ []) (record { parent = nines; label = nines; token = nines; first = nines; next = nines })
+    build (1 ∷ a ∷ 2 ∷ a ∷ a ∷ 0 ∷ []) (record { parent = nines; label = nines; token = nines; first = nines; next = nines; shift = nines })
 
 made-sizes : made .answer ≡ accepted (record { nodes = 3; shortest = 1; longest = 2 })
 made-sizes = refl
@@ -143,7 +143,7 @@ passed-right = refl
 abbrev grown : Building
 grown =
     let nines : List ℕ = replicate 7 9 in
-    build (1 ∷ b ∷ 5 ∷ b ∷ a ∷ a ∷ a ∷ a ∷ 0 ∷ []) (record { parent = nines; label = nines; token = nines; first = nines; next = nines })
+    build (1 ∷ b ∷ 5 ∷ b ∷ a ∷ a ∷ a ∷ a ∷ 0 ∷ []) (record { parent = nines; label = nines; token = nines; first = nines; next = nines; shift = nines })
 
 abbrev remembering : List Call
 remembering =

@@ -60,13 +60,14 @@ pub extern "C" fn lonnatchi_build(
     token: &mut [u16],
     first: &mut [u16],
     next: &mut [u16],
+    shift: &mut [u16],
 ) -> Built
     ensures { λ r. let made = build (now (book .entry))
-        (tables (now (parent .entry)) (now (label .entry)) (now (token .entry)) (now (first .entry)) (now (next .entry))) in
+        (tables (now (parent .entry)) (now (label .entry)) (now (token .entry)) (now (first .entry)) (now (next .entry)) (now (shift .entry))) in
         ⌜ (r ≡ builtOf (made .answer))
-        × (tables (now (parent .exit)) (now (label .exit)) (now (token .exit)) (now (first .exit)) (now (next .exit)) ≡ made .tables) ⌝ }
+        × (tables (now (parent .exit)) (now (label .exit)) (now (token .exit)) (now (first .exit)) (now (next .exit)) (now (shift .exit)) ≡ made .tables) ⌝ }
 {
-    numbers(trie::build(book, parent, label, token, first, next))
+    numbers(trie::build(book, parent, label, token, first, next, shift))
 }
 
 // The tables and the hit buffers as the sweep leaves them, and its answer in numbers.
@@ -79,14 +80,15 @@ pub extern "C" fn lonnatchi_sweep(
     token: &mut [u16],
     first: &mut [u16],
     next: &mut [u16],
+    shift: &mut [u16],
     ends: &mut [u32],
     tokens: &mut [u32],
 ) -> Swept
     ensures { λ r. let made = sweepImage (now (book .entry)) (now (image .entry))
-        (tables (now (parent .entry)) (now (label .entry)) (now (token .entry)) (now (first .entry)) (now (next .entry)))
+        (tables (now (parent .entry)) (now (label .entry)) (now (token .entry)) (now (first .entry)) (now (next .entry)) (now (shift .entry)))
         (now (ends .entry)) (now (tokens .entry)) in
         ⌜ (r ≡ sweptOf (made .answer) (made .fetched) (made .spared))
-        × (tables (now (parent .exit)) (now (label .exit)) (now (token .exit)) (now (first .exit)) (now (next .exit)) ≡ made .tables)
+        × (tables (now (parent .exit)) (now (label .exit)) (now (token .exit)) (now (first .exit)) (now (next .exit)) (now (shift .exit)) ≡ made .tables)
         × (now (ends .exit) ≡ made .ends) × (now (tokens .exit) ≡ made .tokens) ⌝ }
 {
     sweeps::numbers(image::sweep_image(
@@ -97,6 +99,7 @@ pub extern "C" fn lonnatchi_sweep(
         token,
         first,
         next,
+        shift,
         ends,
         tokens,
     ))

@@ -1,4 +1,4 @@
--- Rule 5 straight from the records of a book, and caches of it: an entry is 0 or right.
+-- Rule 5 straight from the records of a book, and caches of its byte shift and of whole shifts: an entry is 0 or right.
 use Prim.Native.Nat.{ℕ, _+_, _*_, _<_}
 use mathlib.Core.Path.{_≡_}
 use mathlib.Core.Bool.{false}
@@ -7,9 +7,8 @@ use mathlib.Core.Option.{Option, some, none}
 use lib.ListN.{length, getD}
 use Rattle.rules.specs.Lists.{anyOf}
 use Rattle.rules.specs.Words.{allWords}
-use Rattle.rules.specs.Tokens.{ends, nodeShift, byteShift, shiftOf, shortestOf}
+use Rattle.rules.specs.Tokens.{ends, byteShift, shiftOf, shortestOf}
 use Rattle.book.specs.Book.{Reading, accepted, refused, readBook}
-use Rattle.tables.specs.Tables.{nodes}
 use Rattle.image.specs.declared.walk.Stop.{Stop}
 use Rattle.image.specs.declared.walk.Stop.the-variants.{Byte, Nothing}
 
@@ -35,17 +34,9 @@ abbrev pub closingOf : Stop → Option ℕ
 closingOf (Byte x) = some x
 closingOf Nothing = none
 
--- the ending of node v
-abbrev pub nameOf : List ℕ → ℕ → List ℕ
-nameOf book v = getD (nodes (wordsIn book)) v []
-
 -- an entry is 0 or right
 abbrev pub Right : ℕ → ℕ → Type 0
 Right entry right = (entry ≡ 0 → ⊥) → entry ≡ right
-
--- The node shift by node.
-pub record ByNode (book : List ℕ) (shortest : ℕ) (cache : List ℕ) : Type 0 where
-  pub right : (v : ℕ) → Right (getD cache v 0) (nodeShift (wordsIn book) shortest (nameOf book v))
 
 -- The byte shift by byte and by depths below 64.
 pub record ByByte (book : List ℕ) (shortest : ℕ) (cache : List ℕ) : Type 0 where

@@ -8,7 +8,7 @@ use lib.ListN.{length, getD}
 use Rattle.rules.specs.Lists.{anyOf}
 use Rattle.rules.specs.Rules.{Stretch}
 use Rattle.rules.specs.Tokens.{ends, ofTokens, shiftOf, shortestOf, longestOf}
-use Rattle.book.specs.Book.{readBook, accepted, maxBodies, maxImage, maxBody}
+use Rattle.book.specs.Book.{readBook, accepted, maxImage, maxBody}
 use Rattle.book.specs.Laws.Accepted.{accepted-setting}
 use Rattle.trie.specs.Answers.{tables}
 use Rattle.tables.specs.Laws.Represents.{Represents}
@@ -20,15 +20,14 @@ use Rattle.image.specs.declared.walk.Stop.the-variants.{Byte, Nothing}
 use Rattle.whole.specs.Image.{hitsOf, fetchesOf, sparesOf}
 use Rattle.image.specs.Rounds.{Reached, reached, met, lowest}
 use Rattle.image.specs.Spans.{placesOf, inUse}
-use Rattle.image.specs.Rule5.{tokensOf, wordsIn, Accepted, closingOf, ByNode, ByByte, BySkip}
+use Rattle.image.specs.Rule5.{tokensOf, wordsIn, Accepted, closingOf, ByByte, BySkip}
 use Rattle.image.specs.Laws.Round.{Starts, fetchesFrom, sparesFrom, hitsFrom}
 
 -- An accepted book, tables that represent its tokens, and an image within its limit.
-pub record Given (book image label token first next : List ℕ) (count shortest : ℕ) : Type 0 where
+pub record Given (book image label token first next shift : List ℕ) (count shortest : ℕ) : Type 0 where
   pub parent : List ℕ
   pub read : Accepted book shortest
-  pub stands : Represents (tables parent label token first next) count (tokensOf book)
-  pub nodes : count ≤ 1 + maxBodies
+  pub stands : Represents (tables parent label token first next shift) count (tokensOf book)
   pub within : length image ≤ maxImage
 
 -- Where a sweep stands: the boundary, what is remembered, and how many bytes were fetched and spared, and hits found, so far.
@@ -111,9 +110,7 @@ module _ (book image : List ℕ) where
     pub seen : (y : ℕ) → depth ≡ 1 → met ≡ 0 → closingOf stop ≡ some y → Seen y x by
 
   -- The caches, right for a book and an image.
-  pub record Caches (shortest : ℕ) (nodes bytes skip pairs : List ℕ) : Type 0 where
-    pub size : length nodes ≡ 1 + maxBodies
-    pub by-node : ByNode book shortest nodes
+  pub record Caches (shortest : ℕ) (bytes skip pairs : List ℕ) : Type 0 where
     pub by-byte : ByByte book shortest bytes
     pub by-skip : BySkip book shortest skip
     pub by-pair : ByPair pairs

@@ -8,16 +8,16 @@ use lib.Dec.{ltb, eqb}
 use lib.ListN.{length, getD, set}
 use Rattle.rules.specs.Rules.{Tree}
 use Rattle.tables.specs.Walks.{childBy, ofTables}
-use Rattle.trie.specs.Answers.{tables}
+use Rattle.trie.specs.Answers.{treeOnly}
 use Rattle.image.specs.declared.walk.Stop.{Stop}
 use Rattle.image.specs.declared.walk.Stop.the-variants.{Byte, Nothing}
 use Rattle.image.specs.declared.walk.Arrival.{Arrival}
 use Rattle.whole.specs.Image.{room}
 use Rattle.image.specs.Rounds.{Reached}
 
--- The tree of the four tables that a round reads; S plays no part in it.
+-- The tree of the four tables by which a round goes down; shifts play no part in it.
 abbrev pub treeIn : List ℕ → List ℕ → List ℕ → List ℕ → ℕ → Tree ℕ
-treeIn label token first next count = ofTables (tables [] label token first next) count 0
+treeIn label token first next count = ofTables (treeOnly [] label token first next) count 0
 
 -- Nodes below the count have their entries, their children are such nodes, and the root has a child.
 pub record Walkable (label token first next : List ℕ) (count : ℕ) : Type 0 where
@@ -25,22 +25,12 @@ pub record Walkable (label token first next : List ℕ) (count : ℕ) : Type 0 w
   pub tokens : count ≤ length token
   pub firsts : count ≤ length first
   pub rooted : eqb (getD first 0 0) 0 ≡ false
-  pub below : (v x w : ℕ) → v < count → childBy (tables [] label token first next) count v x ≡ some w → w < count
+  pub below : (v x w : ℕ) → v < count → childBy (treeOnly [] label token first next) count v x ≡ some w → w < count
 
 -- the first n entries of a list, the last of them first
 abbrev pub newest : List ℕ → ℕ → List ℕ
 newest l zero = []
 newest l (suc n) = getD l n 0 ∷ newest l n
-
--- a child's number, 0 for none
-abbrev pub numberOf : Option ℕ → ℕ
-numberOf none = 0
-numberOf (some v) = v
-
--- The root's children by label.
-pub record Kids (label first next : List ℕ) (count : ℕ) (kids : List ℕ) : Type 0 where
-  pub size : length kids ≡ 256
-  pub each : (x : ℕ) → x < 256 → getD kids x 0 ≡ numberOf (childBy (tables [] label [] first next) count 0 x)
 
 -- Where a round ends, as the code answers it.
 abbrev pub stopOf : Option ℕ → Stop

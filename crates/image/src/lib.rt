@@ -99,6 +99,7 @@ pub fn sweep_image(
     token: &mut [u16],
     first: &mut [u16],
     next: &mut [u16],
+    shift: &mut [u16],
     ends: &mut [u32],
     tokens: &mut [u32],
 ) -> Swept
@@ -107,19 +108,19 @@ pub fn sweep_image(
           answer = sweptOf r;
           fetched = fetchedOf r;
           spared = sparedOf r;
-          tables = tables (now (parent .exit)) (now (label .exit)) (now (token .exit)) (now (first .exit)) (now (next .exit));
+          tables = tables (now (parent .exit)) (now (label .exit)) (now (token .exit)) (now (first .exit)) (now (next .exit)) (now (shift .exit));
           ends = now (ends .exit);
           tokens = now (tokens .exit);
         }
         ≡ sweepImage (now (book .entry)) (now (image .entry))
-        (tables (now (parent .entry)) (now (label .entry)) (now (token .entry)) (now (first .entry)) (now (next .entry)))
+        (tables (now (parent .entry)) (now (label .entry)) (now (token .entry)) (now (first .entry)) (now (next .entry)) (now (shift .entry)))
         (now (ends .entry)) (now (tokens .entry))
         ⌝ }
 {
     if Book::IMAGE < image.len() {
-        return refuse(book, shortest(parent, label, token, first, next));
+        return refuse(book, shortest(parent, label, token, first, next, shift));
     }
-    match trie::build(book, parent, label, token, first, next) {
+    match trie::build(book, parent, label, token, first, next, shift) {
         Building::Unread(why) => Swept::Unread(why),
         Building::TooShort(room) => Swept::TooShort(room),
         Building::Made(sizes) => {
@@ -130,6 +131,7 @@ pub fn sweep_image(
                 token,
                 first,
                 next,
+                shift,
                 sizes.nodes,
                 sizes.shortest,
                 ends,

@@ -2,8 +2,8 @@
 ghost use mathlib.Core.Path.{_≡_};
 ghost use lib.ListN.{length};
 ghost use Rattle.book.specs.Book.{maxBody};
+ghost use Rattle.trie.specs.Chain.{Kids};
 ghost use Rattle.whole.specs.Image.{room, hitsOf, fetchesOf, sparesOf, noted};
-ghost use Rattle.image.specs.Walk.{Kids};
 ghost use Rattle.image.specs.Rule5.{tokensOf};
 ghost use Rattle.image.specs.Sweeping.{Given, Caches};
 use crate::Found;
@@ -11,7 +11,6 @@ use crate::skim::ahead;
 use crate::spans;
 use crate::turn::attempt;
 use crate::turn::forgets;
-use crate::walk;
 use book::Book;
 
 // All rounds. The stretches are a variable of their own: most rounds leave them alone.
@@ -22,21 +21,21 @@ fn rounds(
     token: &[u16],
     first: &[u16],
     next: &[u16],
+    shift: &[u16],
     count: usize,
     kids: &[u16],
     shortest: usize,
     kept: &mut [u16],
     ends: &mut [u32],
     tokens: &mut [u32],
-    nodes: &mut [u16],
     bytes: &mut [u16],
     skip: &mut [u16],
     pairs: &mut [u16],
 ) -> Found
-    requires given { ⌜ Given (now book) (now image) (now label) (now token) (now first) (now next) count shortest ⌝ }
+    requires given { ⌜ Given (now book) (now image) (now label) (now token) (now first) (now next) (now shift) count shortest ⌝ }
     requires kids { ⌜ Kids (now label) (now first) (now next) count (now kids) ⌝ }
     requires room { ⌜ length (now kept) ≡ maxBody ⌝ }
-    requires caches { ⌜ Caches (now book) (now image) shortest (now nodes) (now bytes) (now skip) (now pairs) ⌝ }
+    requires caches { ⌜ Caches (now book) (now image) shortest (now bytes) (now skip) (now pairs) ⌝ }
     ensures hits { λ r. ⌜ r .hits ≡ length (hitsOf (tokensOf (now (book .entry))) (now (image .entry))) ⌝ }
     ensures fetched { λ r. ⌜ r .fetched ≡ fetchesOf (tokensOf (now (book .entry))) (now (image .entry)) ⌝ }
     ensures spared { λ r. ⌜ r .spared ≡ sparesOf (tokensOf (now (book .entry))) (now (image .entry)) ⌝ }
@@ -60,13 +59,13 @@ fn rounds(
             token,
             first,
             next,
+            shift,
             count,
             kids,
             shortest,
             kept,
             ends,
             tokens,
-            nodes,
             bytes,
             skip,
             pairs,
@@ -99,12 +98,13 @@ pub fn sweep(
     token: &[u16],
     first: &[u16],
     next: &[u16],
+    shift: &[u16],
     count: usize,
     shortest: usize,
     ends: &mut [u32],
     tokens: &mut [u32],
 ) -> Found
-    requires given { ⌜ Given (now book) (now image) (now label) (now token) (now first) (now next) count shortest ⌝ }
+    requires given { ⌜ Given (now book) (now image) (now label) (now token) (now first) (now next) (now shift) count shortest ⌝ }
     ensures hits { λ r. ⌜ r .hits ≡ length (hitsOf (tokensOf (now (book .entry))) (now (image .entry))) ⌝ }
     ensures fetched { λ r. ⌜ r .fetched ≡ fetchesOf (tokensOf (now (book .entry))) (now (image .entry)) ⌝ }
     ensures spared { λ r. ⌜ r .spared ≡ sparesOf (tokensOf (now (book .entry))) (now (image .entry)) ⌝ }
@@ -113,9 +113,8 @@ pub fn sweep(
     ensures tokens { λ r. ⌜ now (tokens .exit) ≡ noted (λ h. h .1) (room (now (ends .entry)) (now (tokens .entry)))
         (hitsOf (tokensOf (now (book .entry))) (now (image .entry))) (now (tokens .entry)) ⌝ }
 {
-    let kids = walk::root_children(label, first, next, count);
+    let kids = trie::chain::root_children(label, first, next, count);
     let mut kept = [0u16; Book::BODY];
-    let mut nodes = [0u16; 1 + Book::BODIES];
     let mut bytes = [0u16; 256 * 64];
     let mut skip = [0u16; 256];
     let mut pairs = [0u16; 65536];
@@ -126,13 +125,13 @@ pub fn sweep(
         token,
         first,
         next,
+        shift,
         count,
         &kids,
         shortest,
         &mut kept,
         ends,
         tokens,
-        &mut nodes,
         &mut bytes,
         &mut skip,
         &mut pairs,

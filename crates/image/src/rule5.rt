@@ -1,4 +1,4 @@
-// Rule 5 straight from the records of the book.
+// Rule 5's byte shift straight from the records of the book.
 ghost use Prim.Native.Nat.{_≤_};
 ghost use mathlib.Core.Path.{_≡_};
 ghost use mathlib.Core.List.{reverse};
@@ -6,11 +6,10 @@ ghost use mathlib.Core.Option.{some};
 ghost use lib.ListN.{length};
 ghost use Rattle.rules.specs.Lists.{over};
 ghost use Rattle.rules.specs.Words.{wordsOf};
-ghost use Rattle.rules.specs.Tokens.{nodeShift, byteShift};
-ghost use Rattle.agree.specs.Tests.{nodeTest, byteTest, leastOf};
+ghost use Rattle.rules.specs.Tokens.{byteShift};
+ghost use Rattle.agree.specs.Tests.{byteTest, leastOf};
 ghost use Rattle.image.specs.Rule5.{wordsIn, Accepted};
 use agree::byte_least;
-use agree::node_least;
 use book::words::has_reverse;
 
 // The longest card number.
@@ -28,21 +27,7 @@ fn reverse_into(body: &[u8], into: &mut [u8; CARD])
     }
 }
 
-// The smallest s from 1 below `best` at which a word of the body fits the matched bytes, or `best`.
-fn node_words(body: &[u8], matched: &[u8], best: usize) -> usize
-    requires { ⌜ 1 ≤ best ⌝ }
-    ensures { λ r. ⌜ r ≡ leastOf (nodeTest (now (matched .entry))) (wordsOf (now (body .entry))) best ⌝ }
-{
-    let own = node_least(body, matched, best);
-    if !has_reverse(body) {
-        return own;
-    }
-    let mut word = [0u8; CARD];
-    reverse_into(body, &mut word);
-    node_least(&word[..body.len()], matched, own)
-}
-
-// The same for the byte x left of `depth` matched ones alone.
+// The smallest s from 1 below `best` at which a word of the body fits the byte x left of `depth` matched ones, or `best`.
 fn byte_words(body: &[u8], depth: usize, x: u8, best: usize) -> usize
     requires { ⌜ 1 ≤ best ⌝ }
     ensures { λ r. ⌜ r ≡ leastOf (byteTest depth x) (wordsOf (now (body .entry))) best ⌝ }
@@ -56,23 +41,8 @@ fn byte_words(body: &[u8], depth: usize, x: u8, best: usize) -> usize
     byte_least(&word[..body.len()], depth, x, own)
 }
 
-// The node shift of the matched bytes, token by token: the words of each are searched below the best so far. The book ends with 00h.
-pub fn node_shift(book: &[u8], matched: &[u8], shortest: usize) -> usize
-    requires { ⌜ Accepted (now book) shortest ⌝ }
-    ensures { λ r. ⌜ r ≡ nodeShift (wordsIn (now (book .entry))) shortest (now (matched .entry)) ⌝ }
-{
-    let mut best = shortest;
-    let mut at = 0;
-    while at + 1 < book.len() {
-        let start = at + 1;
-        let end = start + book::body_at(book, at);
-        best = node_words(&book[start..end], matched, best);
-        at = end;
-    }
-    best
-}
-
-// The byte shift of the byte x left of `depth` matched ones.
+// The byte shift of the byte x left of `depth` matched ones, token by token: the words of each are searched below the best so far. The book
+// ends with 00h.
 pub fn byte_shift(book: &[u8], depth: usize, x: u8, shortest: usize) -> usize
     requires { ⌜ Accepted (now book) shortest ⌝ }
     ensures { λ r. ⌜ r ≡ byteShift (wordsIn (now (book .entry))) shortest depth (some x) ⌝ }

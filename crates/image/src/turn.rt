@@ -6,7 +6,8 @@ ghost use mathlib.Core.List.{List};
 ghost use lib.Dec.{eqb, ltb};
 ghost use lib.ListN.{length};
 ghost use Rattle.book.specs.Book.{maxBody};
-ghost use Rattle.image.specs.Walk.{Kids, Noted};
+ghost use Rattle.trie.specs.Chain.{Kids};
+ghost use Rattle.image.specs.Walk.{Noted};
 ghost use Rattle.image.specs.Rule5.{BySkip};
 ghost use Rattle.image.specs.Sweeping.{lowestOf, Learns, Given, metAt, ByPair, Sees, Caches, Begun, Ended};
 use crate::caches;
@@ -84,42 +85,33 @@ pub fn attempt(
     token: &[u16],
     first: &[u16],
     next: &[u16],
+    shift: &[u16],
     count: usize,
     kids: &[u16],
     shortest: usize,
     kept: &mut [u16],
     ends: &mut [u32],
     tokens: &mut [u32],
-    nodes: &mut [u16],
     bytes: &mut [u16],
     skip: &mut [u16],
     pairs: &mut [u16],
 ) -> Outcome
-    requires given { ⌜ Given (now book) (now image) (now label) (now token) (now first) (now next) count shortest ⌝ }
+    requires given { ⌜ Given (now book) (now image) (now label) (now token) (now first) (now next) (now shift) count shortest ⌝ }
     requires begun { ⌜ Begun (now book) (now image) b hits ⌝ }
     requires kids { ⌜ Kids (now label) (now first) (now next) count (now kids) ⌝ }
     requires room { ⌜ length (now kept) ≡ maxBody ⌝ }
-    requires caches { ⌜ Caches (now book) (now image) shortest (now nodes) (now bytes) (now skip) (now pairs) ⌝ }
+    requires caches { ⌜ Caches (now book) (now image) shortest (now bytes) (now skip) (now pairs) ⌝ }
     ensures ended { λ r. ⌜ Ended (now (book .entry)) (now (image .entry)) b r ⌝ }
     ensures hits { λ r. ⌜
         Noted (now (ends .entry)) (now (tokens .entry)) hits (metAt (now (book .entry)) (now (image .entry)) b)
         (now (ends .exit)) (now (tokens .exit)) (r .hits)
         ⌝ }
-    ensures caches { λ r. ⌜ Caches (now (book .entry)) (now (image .entry)) shortest (now (nodes .exit)) (now (bytes .exit)) (now (skip .exit)) (now (pairs .exit)) ⌝ }
+    ensures caches { λ r. ⌜ Caches (now (book .entry)) (now (image .entry)) shortest (now (bytes .exit)) (now (skip .exit)) (now (pairs .exit)) ⌝ }
 {
     let arrival = descend(image, label, token, first, next, count, kids, b, kept);
     let depth = arrival.depth;
     let stop = arrival.stop;
-    let from = b - depth;
-    let by = caches::shift(
-        book,
-        &image[from..b],
-        arrival.node,
-        stop,
-        shortest,
-        nodes,
-        bytes,
-    );
+    let by = caches::shift(book, shift, arrival.node, depth, stop, shortest, bytes);
     learn(skip, depth, stop, by);
     learn_pair(pairs, image[b - 1], depth, stop, arrival.met, by);
     let low = lowest(b, depth, stop);

@@ -1,15 +1,13 @@
 // A round's way down the tree, and the hits on it.
-ghost use Prim.Native.Nat.{ℕ, _+_, _^_, _≤_, _<_};
+ghost use Prim.Native.Nat.{_^_, _≤_, _<_};
 ghost use mathlib.Core.Path.{_≡_};
-ghost use mathlib.Core.List.{[], map};
-ghost use mathlib.Core.Option.{some};
+ghost use mathlib.Core.List.{map};
 ghost use lib.ListN.{length};
-ghost use Rattle.book.specs.Book.{maxBodies, maxImage};
-ghost use Rattle.tables.specs.Walks.{childBy};
-ghost use Rattle.trie.specs.Answers.{tables, childOf};
+ghost use Rattle.book.specs.Book.{maxImage};
+ghost use Rattle.trie.specs.Chain.{Kids};
 ghost use Rattle.whole.specs.Image.{room};
 ghost use Rattle.image.specs.Rounds.{meeting, reached};
-ghost use Rattle.image.specs.Walk.{treeIn, Walkable, newest, numberOf, Kids, arrivalOf, note, Noted};
+ghost use Rattle.image.specs.Walk.{treeIn, Walkable, newest, arrivalOf, note, Noted};
 use trie::Child;
 use trie::entries::wide;
 
@@ -25,29 +23,6 @@ pub struct Arrival {
     pub depth: usize,
     pub stop: Stop,
     pub met: usize,
-}
-
-// A child's number, 0 for none.
-fn number_of(child: Child) -> u16
-    requires { ⌜ numberOf (childOf child) < 65536 ⌝ }
-    ensures { λ r. ⌜ r ≡ numberOf (childOf child) ⌝ }
-{
-    match child {
-        Child::At(v) => v as u16,
-        Child::Absent => 0,
-    }
-}
-
-// The root's children by label, 0 for none.
-pub fn root_children(label: &[u8], first: &[u16], next: &[u16], count: usize) -> [u16; 256]
-    requires { ⌜ ((x w : ℕ) → childBy (tables [] (now label) [] (now first) (now next)) count 0 x ≡ some w → w < 1 + maxBodies) ⌝ }
-    ensures { λ r. ⌜ Kids (now (label .entry)) (now (first .entry)) (now (next .entry)) count r ⌝ }
-{
-    let mut kids = [0u16; 256];
-    for x in 0..256 {
-        kids[x] = number_of(trie::chain::child(label, first, next, count, 0, x as u8));
-    }
-    kids
 }
 
 // Keeps a token's number behind the n before it; 0 is none. Answers how many there are then.

@@ -71,8 +71,8 @@ merged-told : mergingOf (record { answer = wrote 3; out = 1 ∷ 97 ∷ 0 ∷ 7 �
     ≡ record { told = told 1 3 0 0 0; out = 1 ∷ 97 ∷ 0 ∷ 7 ∷ [] }
 merged-told = refl
 
-built-told : buildingOf (record { answer = refused 7 21; tables = tables (1 ∷ []) (2 ∷ []) (3 ∷ []) (4 ∷ []) (5 ∷ []) })
-    ≡ record { told = told 0 7 21 0 0; tables = tables (1 ∷ []) (2 ∷ []) (3 ∷ []) (4 ∷ []) (5 ∷ []) }
+built-told : buildingOf (record { answer = refused 7 21; tables = tables (1 ∷ []) (2 ∷ []) (3 ∷ []) (4 ∷ []) (5 ∷ []) (6 ∷ []) })
+    ≡ record { told = told 0 7 21 0 0; tables = tables (1 ∷ []) (2 ∷ []) (3 ∷ []) (4 ∷ []) (5 ∷ []) (6 ∷ []) }
 built-told = refl
 
 -- a step that hands back the state it is given, and used 3 bytes

@@ -13,7 +13,7 @@ ghost use Rattle.tables.specs.Tables.{build};
 ghost use Rattle.tables.specs.Broken.{broken, tested};
 ghost use Rattle.tables.specs.Walks.{childBy};
 ghost use Rattle.trie.specs.Chain.{walked};
-ghost use Rattle.trie.specs.Answers.{tables};
+ghost use Rattle.trie.specs.Answers.{tables, treeOnly};
 ghost use Rattle.scan.specs.Start.{start};
 ghost use Rattle.scan.specs.Calls.{carryOn, supply};
 ghost use Rattle.scan.specs.Packets.{noneUsed, supplyPacket};
@@ -81,17 +81,18 @@ pub extern "C" fn probe_build(
     token: &mut [u16],
     first: &mut [u16],
     next: &mut [u16],
+    shift: &mut [u16],
 ) -> Told
     ensures { λ r. ⌜
         record {
           told = r;
-          tables = tables (now (parent .exit)) (now (label .exit)) (now (token .exit)) (now (first .exit)) (now (next .exit));
+          tables = tables (now (parent .exit)) (now (label .exit)) (now (token .exit)) (now (first .exit)) (now (next .exit)) (now (shift .exit));
         }
         ≡ buildingOf (build (now (book .entry))
-        (tables (now (parent .entry)) (now (label .entry)) (now (token .entry)) (now (first .entry)) (now (next .entry))))
+        (tables (now (parent .entry)) (now (label .entry)) (now (token .entry)) (now (first .entry)) (now (next .entry)) (now (shift .entry))))
         ⌝ }
 {
-    answers::building(trie::build(book, parent, label, token, first, next))
+    answers::building(trie::build(book, parent, label, token, first, next, shift))
 }
 
 #[no_mangle]
@@ -101,13 +102,14 @@ pub extern "C" fn probe_test(
     token: &[u16],
     first: &[u16],
     next: &[u16],
+    shift: &[u16],
     count: usize,
 ) -> Told
     ensures { λ r.
-        let t = tables (now (parent .entry)) (now (label .entry)) (now (token .entry)) (now (first .entry)) (now (next .entry)) in
+        let t = tables (now (parent .entry)) (now (label .entry)) (now (token .entry)) (now (first .entry)) (now (next .entry)) (now (shift .entry)) in
         ⌜ r ≡ testedOf (tested (broken t count)) ⌝ }
 {
-    answers::tested(trie::first_break(parent, label, token, first, next, count))
+    answers::tested(trie::first_break(parent, label, token, first, next, shift, count))
 }
 
 #[no_mangle]
@@ -120,7 +122,7 @@ pub extern "C" fn probe_child(
     byte: u8,
 ) -> Told
     ensures { λ r. ⌜
-        r ≡ childOf (childBy (tables [] (now (label .entry)) [] (now (first .entry)) (now (next .entry))) count node byte)
+        r ≡ childOf (childBy (treeOnly [] (now (label .entry)) [] (now (first .entry)) (now (next .entry))) count node byte)
         ⌝ }
 {
     answers::child(trie::chain::child(label, first, next, count, node, byte))
@@ -162,14 +164,15 @@ pub extern "C" fn probe_carry_on(
     token: &[u16],
     first: &[u16],
     next: &[u16],
+    shift: &[u16],
 ) -> Told
     ensures { λ r.
-        let t = tables (now (parent .entry)) (now (label .entry)) (now (token .entry)) (now (first .entry)) (now (next .entry)) in
+        let t = tables (now (parent .entry)) (now (label .entry)) (now (token .entry)) (now (first .entry)) (now (next .entry)) (now (shift .entry)) in
         ⌜ record { state = now (state .exit); told = r } ≡ stepIn (λ s. noneUsed (carryOn t s)) (now (state .entry)) ⌝ }
 {
     if states::is_state(state) {
         let scan = states::state_in(state);
-        let stepped = scan.carry_on(parent, label, token, first, next);
+        let stepped = scan.carry_on(parent, label, token, first, next, shift);
         let answer = stepped.answer;
         return states::hand_back(state, stepped.state, answer, 0);
     }
@@ -184,15 +187,16 @@ pub extern "C" fn probe_supply(
     token: &[u16],
     first: &[u16],
     next: &[u16],
+    shift: &[u16],
     byte: u8,
 ) -> Told
     ensures { λ r.
-        let t = tables (now (parent .entry)) (now (label .entry)) (now (token .entry)) (now (first .entry)) (now (next .entry)) in
+        let t = tables (now (parent .entry)) (now (label .entry)) (now (token .entry)) (now (first .entry)) (now (next .entry)) (now (shift .entry)) in
         ⌜ record { state = now (state .exit); told = r } ≡ stepIn (λ s. noneUsed (supply t s byte)) (now (state .entry)) ⌝ }
 {
     if states::is_state(state) {
         let scan = states::state_in(state);
-        let stepped = scan.supply(parent, label, token, first, next, byte);
+        let stepped = scan.supply(parent, label, token, first, next, shift, byte);
         let answer = stepped.answer;
         return states::hand_back(state, stepped.state, answer, 0);
     }
@@ -207,15 +211,16 @@ pub extern "C" fn probe_packet(
     token: &[u16],
     first: &[u16],
     next: &[u16],
+    shift: &[u16],
     bytes: &[u8],
 ) -> Told
     ensures { λ r.
-        let t = tables (now (parent .entry)) (now (label .entry)) (now (token .entry)) (now (first .entry)) (now (next .entry)) in
+        let t = tables (now (parent .entry)) (now (label .entry)) (now (token .entry)) (now (first .entry)) (now (next .entry)) (now (shift .entry)) in
         ⌜ record { state = now (state .exit); told = r } ≡ stepIn (λ s. supplyPacket t s (now (bytes .entry))) (now (state .entry)) ⌝ }
 {
     if states::is_state(state) {
         let scan = states::state_in(state);
-        let delivered = scan.supply_packet(parent, label, token, first, next, bytes);
+        let delivered = scan.supply_packet(parent, label, token, first, next, shift, bytes);
         let answer = delivered.answer;
         return states::hand_back(state, delivered.state, answer, delivered.used);
     }

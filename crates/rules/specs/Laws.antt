@@ -16,5 +16,6 @@ pub mod Remember
 pub mod Setting
 pub mod Exact
 pub mod Ordered
+pub mod Shortened
 pub mod Image
 pub mod Alike

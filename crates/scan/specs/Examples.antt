@@ -1,10 +1,10 @@
 -- Samples of states at the edges of their ranges, a table for each: the range holds here and does not one further. And of starting,
--- and of steps that are refused or done.
+-- of steps that are refused or done, and of entries that building did not write.
 use Prim.Native.Nat.{ℕ, zero, suc, _+_}
 use mathlib.Core.Path.{_≡_, refl}
 use mathlib.Core.Bool.{Bool, true, false, _&&_, not}
 use mathlib.Core.List.{List, [], _∷_, _++_}
-use mathlib.Core.Option.{some}
+use mathlib.Core.Option.{some, none}
 use lib.ListN.{replicate}
 use Rattle.rules.specs.Rules.{Stretch}
 use Rattle.book.specs.Book.{accepted, refused as unstarted}
@@ -30,6 +30,7 @@ chain = record {
   token = replicate 20 0 ++ (1 ∷ []);
   first = count 1 20 ++ (0 ∷ []);
   next = replicate 21 0;
+  shift = replicate 21 1;
 }
 
 unfoldable pub stretch : ℕ → ℕ → ℕ → Stretch ℕ
@@ -165,6 +166,7 @@ nested n = record {
   token = count 0 (1 + n);
   first = count 1 n ++ (0 ∷ []);
   next = replicate (1 + n) 0;
+  shift = replicate (1 + n) 1;
 }
 
 -- the same, but "aa" is no token
@@ -176,6 +178,7 @@ gapped = record {
   token = 0 ∷ 1 ∷ 0 ∷ 3 ∷ 4 ∷ [];
   first = nested 4 .first;
   next = nested 4 .next;
+  shift = nested 4 .shift;
 }
 
 -- N, S, the number of nodes, b, node and d, the first slots, whether a byte is due, the end of the hits that are left and the node of the
@@ -278,7 +281,7 @@ start-over-limit = refl
 -- A step: 9 before 10 before 11; the root of `spoilt` has a label.
 unfoldable pub spoilt : Tables
 unfolding chain
-spoilt = record { parent = chain .parent; label = replicate 21 97; token = chain .token; first = chain .first; next = chain .next }
+spoilt = record { parent = chain .parent; label = replicate 21 97; token = chain .token; first = chain .first; next = chain .next; shift = chain .shift }
 
 nine-first : judged spoilt (row 30 0 21 25 0 0 [] true 0 false .state) false ≡ some (refused 9 0)
 unfolding spoilt chain count row
@@ -335,6 +338,7 @@ branching = record {
   token = 0 ∷ 1 ∷ 0 ∷ 0 ∷ 0 ∷ 0 ∷ 2 ∷ [];
   first = 1 ∷ 0 ∷ 3 ∷ 4 ∷ 5 ∷ 6 ∷ 0 ∷ [];
   next = 0 ∷ 2 ∷ 0 ∷ 0 ∷ 0 ∷ 0 ∷ 0 ∷ [];
+  shift = replicate 7 1;
 }
 
 -- P2's round before place 5: the byte of place 4 is due, and "aaaa" left of it is remembered; m bytes were taken from stretches already.
@@ -356,6 +360,52 @@ spared-counted = refl
 spared-stops : supply branching (before 19999999998) 97 ≡ record { state = behind 20000000000; answer = fetch 5 }
 unfolding before behind branching billed row stretch
 spared-stops = refl
+
+-- `chain` with an entry that building did not write: that of node 2.
+shifting : ℕ → Tables
+unfolding chain
+shifting e = record {
+  parent = chain .parent;
+  label = chain .label;
+  token = chain .token;
+  first = chain .first;
+  next = chain .next;
+  shift = replicate 2 1 ++ (e ∷ replicate 18 1);
+}
+
+-- A round at node 2, and the fetch of the round after it.
+ending : Scan
+unfolding row
+ending = row 60 20 21 25 2 2 [] true 7 true .state
+
+after : ℕ → Stepped
+unfolding row
+after p = record { state = row 60 20 21 (1 + p) 0 0 [] true 8 true .state; answer = fetch p }
+
+-- S is 20, and the byte shift of "b" there 18. An entry above it is followed, one above S is cut, and one below it plays no part.
+entry-followed : supply (shifting 19) ending 98 ≡ after 43
+unfolding after ending shifting chain count row
+entry-followed = refl
+
+entry-cut : supply (shifting 1024) ending 98 ≡ after 44
+unfolding after ending shifting chain count row
+entry-cut = refl
+
+entry-less : supply (shifting 17) ending 98 ≡ after 42
+unfolding after ending shifting chain count row
+entry-less = refl
+
+-- With no closing byte the entry counts alone: the round has come to the image's start.
+entry-alone : carryOn (shifting 17) (row 60 20 21 2 2 2 [] false 8 true .state) ≡ after 18
+unfolding after shifting chain count row
+entry-alone = refl
+
+-- At a step an entry of 0, and one above 1,024, meets 9.
+entry-broken : judged (shifting 0) ending true ∷ judged (shifting 1) ending true ∷ judged (shifting 1024) ending true
+    ∷ judged (shifting 1025) ending true ∷ []
+    ≡ some (refused 9 2) ∷ none ∷ none ∷ some (refused 9 2) ∷ []
+unfolding ending shifting chain count row
+entry-broken = refl
 
 -- The number comes first, then the value; both are 0 where there is no refusal.
 refused-told : stepRefusal (refused 9 4) ≡ (9, 4)

@@ -10,4 +10,5 @@ use Rattle.trie.specs.Answers.{tables}
 pub record Passing (parent token first : List ℕ) (count : ℕ) : Type 0 where
   pub label : List ℕ
   pub next : List ℕ
-  pub fine : broken (tables parent label token first next) count ≡ none
+  pub shift : List ℕ
+  pub fine : broken (tables parent label token first next shift) count ≡ none

@@ -1,4 +1,4 @@
--- Rule 5 node by node, as the code searches it: the closing byte, and nodes without a token.
+-- Rule 5's byte shift node by node, as the code searches it: the closing byte, and nodes without a token.
 use Prim.Native.Nat.{ℕ, _≤_, _<_}
 use mathlib.Core.Path.{_≡_}
 use mathlib.Core.List.{List}

@@ -61,7 +61,7 @@ maxSpared = 20000000000
 abbrev pub maxStretches : ℕ
 maxStretches = 5
 
--- The rules' tree of a state: S of the state cuts both shifts.
+-- The rules' tree of a state: S of the state cuts its shifts.
 abbrev pub treeOf : Tables → Scan → Tree ℕ
 treeOf t s = ofTables t (s .count) (s .shortest)
 

@@ -18,16 +18,17 @@ pub record Stepping (t : Tables) (s : Scan) : Type 0 where
   pub none : s .hit ≡ 0
 
 -- A round ends without a look at the chains.
-pub record Ending (parent label token : List ℕ) (s : Scan) : Type 0 where
+pub record Ending (parent label token shift : List ℕ) (s : Scan) : Type 0 where
   pub first : List ℕ
   pub next : List ℕ
-  pub goes : Goes (tables parent label token first next) s
+  pub goes : Goes (tables parent label token first next shift) s
 
--- A look at the next place without a look at the tokens.
+-- A look at the next place without a look at tokens and shifts.
 pub record Looking (parent label first : List ℕ) (s : Scan) : Type 0 where
   pub token : List ℕ
   pub next : List ℕ
-  pub goes : Goes (tables parent label token first next) s
+  pub shift : List ℕ
+  pub goes : Goes (tables parent label token first next shift) s
 
 -- What comes next from a state, as the rules have it.
 abbrev pub Chosen : Tables → Scan → Move → Type 0

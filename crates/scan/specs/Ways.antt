@@ -7,15 +7,15 @@ use lib.Seq.{sets}
 use Rattle.book.specs.Book.{maxBody}
 use Rattle.tables.specs.Tables.{Tables}
 use Rattle.tables.specs.Walks.{ending, depth, lifted, carrier}
-use Rattle.trie.specs.Answers.{tables}
+use Rattle.trie.specs.Answers.{treeOnly}
 
 -- as far as endings go
 abbrev pub paths : List ℕ → List ℕ → Tables
-paths parent label = tables parent label [] [] []
+paths parent label = treeOnly parent label [] [] []
 
 -- as far as the nodes that carry a token go
 abbrev pub marks : List ℕ → List ℕ → Tables
-marks parent token = tables parent [] token [] []
+marks parent token = treeOnly parent [] token [] []
 
 -- Parents of nodes below the count are smaller nodes; the root's is itself.
 pub record Rises (parent : List ℕ) (count : ℕ) : Type 0 where

@@ -34,13 +34,14 @@ pub fn judge(
     token: &[u16],
     first: &[u16],
     next: &[u16],
+    shift: &[u16],
     turn: bool,
 ) -> Judged
     ensures { λ r.
-        let t = tables (now (parent .entry)) (now (label .entry)) (now (token .entry)) (now (first .entry)) (now (next .entry)) in
+        let t = tables (now (parent .entry)) (now (label .entry)) (now (token .entry)) (now (first .entry)) (now (next .entry)) (now (shift .entry)) in
         ⌜ judgedOf r ≡ judged t scan turn ⌝ }
 {
-    match first_break(parent, label, token, first, next, scan.count) {
+    match first_break(parent, label, token, first, next, shift, scan.count) {
         Tested::Breaks(v) => Judged::Refused(Answer::Broken(v)),
         Tested::Sound => {
             if !in_range(parent, token, first, scan) {

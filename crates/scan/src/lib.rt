@@ -194,17 +194,18 @@ impl Scan {
         token: &[u16],
         first: &[u16],
         next: &[u16],
+        shift: &[u16],
     ) -> Stepped
         ensures { λ r.
-            let t = tables (now (parent .entry)) (now (label .entry)) (now (token .entry)) (now (first .entry)) (now (next .entry)) in
+            let t = tables (now (parent .entry)) (now (label .entry)) (now (token .entry)) (now (first .entry)) (now (next .entry)) (now (shift .entry)) in
             ⌜ steppedOf r ≡ carryOn t self ⌝ }
     {
-        match judge(self, parent, label, token, first, next, false) {
+        match judge(self, parent, label, token, first, next, shift, false) {
             Judged::Refused(answer) => Stepped {
                 state: self,
                 answer,
             },
-            Judged::Admitted => settle(self, parent, label, token, first, next),
+            Judged::Admitted => settle(self, parent, label, token, first, next, shift),
         }
     }
 
@@ -216,18 +217,19 @@ impl Scan {
         token: &[u16],
         first: &[u16],
         next: &[u16],
+        shift: &[u16],
         byte: u8,
     ) -> Stepped
         ensures { λ r.
-            let t = tables (now (parent .entry)) (now (label .entry)) (now (token .entry)) (now (first .entry)) (now (next .entry)) in
+            let t = tables (now (parent .entry)) (now (label .entry)) (now (token .entry)) (now (first .entry)) (now (next .entry)) (now (shift .entry)) in
             ⌜ steppedOf r ≡ supply t self byte ⌝ }
     {
-        match judge(self, parent, label, token, first, next, true) {
+        match judge(self, parent, label, token, first, next, shift, true) {
             Judged::Refused(answer) => Stepped {
                 state: self,
                 answer,
             },
-            Judged::Admitted => supply_due(self, parent, label, token, first, next, byte),
+            Judged::Admitted => supply_due(self, parent, label, token, first, next, shift, byte),
         }
     }
 
@@ -239,10 +241,11 @@ impl Scan {
         token: &[u16],
         first: &[u16],
         next: &[u16],
+        shift: &[u16],
         bytes: &[u8],
     ) -> Delivered
         ensures { λ r.
-            let t = tables (now (parent .entry)) (now (label .entry)) (now (token .entry)) (now (first .entry)) (now (next .entry)) in
+            let t = tables (now (parent .entry)) (now (label .entry)) (now (token .entry)) (now (first .entry)) (now (next .entry)) (now (shift .entry)) in
             ⌜ deliveredOf r ≡ supplyPacket t self (now (bytes .entry)) ⌝ }
     {
         if Scan::PACKET < bytes.len() {
@@ -252,13 +255,13 @@ impl Scan {
                 used: 0,
             };
         }
-        match judge(self, parent, label, token, first, next, true) {
+        match judge(self, parent, label, token, first, next, shift, true) {
             Judged::Refused(answer) => Delivered {
                 state: self,
                 answer,
                 used: 0,
             },
-            Judged::Admitted => feed(self, parent, label, token, first, next, bytes),
+            Judged::Admitted => feed(self, parent, label, token, first, next, shift, bytes),
         }
     }
 }

@@ -36,11 +36,12 @@ pub fn feed(
     token: &[u16],
     first: &[u16],
     next: &[u16],
+    shift: &[u16],
     bytes: &[u8],
 ) -> Delivered
-    requires { ⌜ judged (tables (now parent) (now label) (now token) (now first) (now next)) scan true ≡ none ⌝ }
+    requires { ⌜ judged (tables (now parent) (now label) (now token) (now first) (now next) (now shift)) scan true ≡ none ⌝ }
     ensures { λ r.
-        let t = tables (now (parent .entry)) (now (label .entry)) (now (token .entry)) (now (first .entry)) (now (next .entry)) in
+        let t = tables (now (parent .entry)) (now (label .entry)) (now (token .entry)) (now (first .entry)) (now (next .entry)) (now (shift .entry)) in
         ⌜ deliveredOf r ≡ feedDue t scan (now (bytes .entry)) ⌝ }
 {
     let mut last = scan.boundary - scan.depth;
@@ -48,7 +49,7 @@ pub fn feed(
     let mut answer = Answer::Fetch(last - 1);
     let mut used = 0;
     while used < bytes.len() && is_below(answer, last) {
-        let step = supply_due(state, parent, label, token, first, next, bytes[used]);
+        let step = supply_due(state, parent, label, token, first, next, shift, bytes[used]);
         state = step.state;
         answer = step.answer;
         used = used + 1;

@@ -17,7 +17,7 @@ ghost use lib.ListN.{length};
 ghost use Rattle.rules.specs.Lists.{anyOf};
 ghost use Rattle.book.specs.Book.{maxBody, maxImage};
 ghost use Rattle.tables.specs.Walks.{depth};
-ghost use Rattle.trie.specs.Answers.{tables};
+ghost use Rattle.trie.specs.Answers.{tables, treeOnly};
 ghost use Rattle.scan.specs.State.{stretchOf, used, farthest, stretchOk, stretchesOk, dueOk, upTo, endOk, hitOk, leftOk, inRange};
 ghost use Rattle.scan.specs.Ways.{paths, marks, Rises, Climbs};
 ghost use Rattle.scan.specs.Ranges.{Passing};
@@ -121,7 +121,7 @@ fn remembered(scan: Scan, at: usize) -> bool
 fn due_ok(first: &[u16], scan: Scan) -> bool
     requires { ⌜ scan .node < length (now first) ⌝ }
     requires { ⌜ scan .depth ≤ scan .boundary ⌝ }
-    ensures { λ r. ⌜ r ≡ dueOk (tables [] [] [] (now (first .entry)) []) scan ⌝ }
+    ensures { λ r. ⌜ r ≡ dueOk (treeOnly [] [] [] (now (first .entry)) []) scan ⌝ }
 {
     if !scan.due {
         return true;
@@ -198,7 +198,7 @@ fn left_ok(parent: &[u16], token: &[u16], scan: Scan) -> bool
 // Whether the state is in its ranges. The count comes first: tables of no node hold nothing to read.
 pub fn in_range(parent: &[u16], token: &[u16], first: &[u16], scan: Scan) -> bool
     requires { ⌜ Passing (now parent) (now token) (now first) (scan .count) ⌝ }
-    ensures { λ r. ⌜ ((label next : List ℕ) → r ≡ inRange (tables (now (parent .entry)) label (now (token .entry)) (now (first .entry)) next) scan) ⌝ }
+    ensures { λ r. ⌜ ((label next shift : List ℕ) → r ≡ inRange (tables (now (parent .entry)) label (now (token .entry)) (now (first .entry)) next shift) scan) ⌝ }
 {
     if !between(1, scan.count, NODES) || scan.image > Book::IMAGE {
         return false;

@@ -1,4 +1,4 @@
-// Rule 5 over any tables that are a tree: the node shift and the byte shift, word by word, and the greater of the two.
+// Rule 5 over any tables that are a tree: the node's entry, as given, and the byte shift, word by word.
 
 ghost use Prim.Native.Nat.{_+_, _-_, _≤_, _<_, max};
 ghost use mathlib.Core.Path.{_≡_};
@@ -6,26 +6,22 @@ ghost use mathlib.Core.Bool.{true};
 ghost use mathlib.Core.List.{[]};
 ghost use lib.ListN.{length, getD};
 ghost use Rattle.rules.specs.Lists.{least};
-ghost use Rattle.rules.specs.Tokens.{shiftOf};
 ghost use Rattle.book.specs.Book.{maxBody};
-ghost use Rattle.agree.specs.Tests.{nodeTest, byteTest, leastOf};
-ghost use Rattle.tables.specs.Walks.{ending, words};
-ghost use Rattle.trie.specs.Answers.{tables};
+ghost use Rattle.agree.specs.Tests.{byteTest, leastOf};
+ghost use Rattle.tables.specs.Walks.{ending, depth, words, shiftFrom};
+ghost use Rattle.trie.specs.Answers.{tables, treeOnly};
 ghost use Rattle.scan.specs.Ways.{paths, Readable, Spells};
 ghost use Rattle.scan.specs.Shifts.{closingOf, Bare};
 use crate::spell;
 use book::Book;
+use trie::entries::greater;
+use trie::entries::least;
+use trie::entries::wide;
 
 // The byte that ended a round, if there was one.
 pub enum Closing {
     Byte(u8),
     Nothing,
-}
-
-// The least node shift and the least byte shift so far.
-pub struct Best {
-    pub node: usize,
-    pub byte: usize,
 }
 
 // Whether four nodes from v on carry no token.
@@ -66,130 +62,80 @@ fn carrier(token: &[u16], v: usize, count: usize) -> usize
     at
 }
 
-// The smallest s from 1 below `best` at which the word fits the matched bytes, or `best`. One that fits the last of them for
-// no s has none, which is found sooner.
-fn node_lower(body: &[u8], matched: &[u8], best: usize) -> usize
-    ensures { λ r. ⌜ r ≡ least (nodeTest (now (matched .entry)) (now (body .entry))) 1 (best - 1) ⌝ }
-{
-    let d = matched.len();
-    if d != 0 {
-        let s = agree::byte_least(body, 0, matched[d - 1], best);
-        if best <= s {
-            return s;
-        }
-    }
-    agree::node_least(body, matched, best)
-}
-
-// The least shifts with node v's word too; `word` is for its bytes.
+// The least byte shift with node v's word too; `word` is for its bytes.
 fn lower(
     parent: &[u16],
     label: &[u8],
     v: usize,
     word: &mut [u8; Book::BODY],
-    matched: &[u8],
+    deep: usize,
     x: u8,
-    best: Best,
-) -> Best
+    best: usize,
+) -> usize
     requires way { ⌜ Spells (now parent) (now label) v ⌝ }
     requires buffer { ⌜ length (now word) ≡ maxBody ⌝ }
     ensures word { λ r. ⌜ length (now (word .exit)) ≡ maxBody ⌝ }
     ensures least { λ r. let w = ending (paths (now (parent .entry)) (now (label .entry))) v in
-        let u = now (matched .entry) in
-        ⌜ (r .node ≡ least (nodeTest u w) 1 (best .node - 1)) × (r .byte ≡ least (byteTest (length u) x w) 1 (best .byte - 1)) ⌝ }
+        ⌜ r ≡ least (byteTest deep x w) 1 (best - 1) ⌝ }
 {
     let n = spell::spell(parent, label, v, word);
     let bytes = &word[..];
-    let body = &bytes[..n];
-    Best {
-        node: node_lower(body, matched, best.node),
-        byte: agree::byte_least(body, matched.len(), x, best.byte),
-    }
+    agree::byte_least(&bytes[..n], deep, x, best)
 }
 
-// The least shifts of all words, from those of none.
+// The least byte shift of all words, or the entry where that is no less: the search stops there.
 fn all_least(
     parent: &[u16],
     label: &[u8],
     token: &[u16],
     count: usize,
-    matched: &[u8],
+    shortest: usize,
+    deep: usize,
     x: u8,
-    none: Best,
-) -> Best
+    entry: usize,
+) -> usize
     requires tables { ⌜ Readable (now parent) (now label) (now token) count ⌝ }
-    requires near { ⌜ (1 ≤ none .node) × (1 ≤ none .byte) ⌝ }
-    ensures { λ r. let w = words (tables (now (parent .entry)) (now (label .entry)) (now (token .entry)) [] []) count in
-        let u = now (matched .entry) in
-        ⌜ (r .node ≡ leastOf (nodeTest u) w (none .node)) × (r .byte ≡ leastOf (byteTest (length u) x) w (none .byte)) ⌝ }
+    requires near { ⌜ 1 ≤ shortest ⌝ }
+    ensures { λ r. let w = words (treeOnly (now (parent .entry)) (now (label .entry)) (now (token .entry)) [] []) count in
+        ⌜ r ≡ max entry (leastOf (byteTest deep x) w shortest) ⌝ }
 {
     let mut word = [0u8; Book::BODY];
-    let mut best = none;
+    let mut best = shortest;
     let mut v = 0;
-    while v < count {
+    while v < count && entry < best {
         let at = carrier(token, v, count);
         if at == count {
             return best;
         }
-        best = lower(parent, label, at, &mut word, matched, x, best);
+        best = lower(parent, label, at, &mut word, deep, x, best);
         v = at + 1;
     }
-    best
+    greater(entry, best)
 }
 
-// The greater of the two.
-fn greater(best: Best) -> usize
-    ensures { λ r. ⌜ r ≡ max (best .node) (best .byte) ⌝ }
-{
-    if best.node < best.byte {
-        best.byte
-    } else {
-        best.node
-    }
-}
-
-// Rule 5: the shift after a round that ended at `node`.
+// Rule 5: the shift after a round that ended at `node`, which is so deep. Without a closing byte no word is looked at.
 pub fn shift(
     parent: &[u16],
     label: &[u8],
     token: &[u16],
+    shift: &[u16],
     count: usize,
     shortest: usize,
     node: usize,
+    deep: usize,
     closing: Closing,
 ) -> usize
-    requires tables { ⌜ Readable (now parent) (now label) (now token) count ⌝ }
-    requires numbers { ⌜ (1 ≤ shortest) × (node < count) ⌝ }
-    ensures { λ r. let t = tables (now (parent .entry)) (now (label .entry)) (now (token .entry)) [] [] in
-        ⌜ r ≡ shiftOf (words t count) shortest (ending t node) (closingOf closing) ⌝ }
+    requires tables { ⌜ Readable (now parent) (now label) (now token) count × (count ≤ length (now shift)) ⌝ }
+    requires numbers { ⌜ (1 ≤ shortest) × (node < count) × (deep ≡ depth (paths (now parent) []) node) ⌝ }
+    ensures { λ r. let t = tables (now (parent .entry)) (now (label .entry)) (now (token .entry)) [] [] (now (shift .entry)) in
+        ⌜ r ≡ shiftFrom t count shortest node (closingOf closing) ⌝ }
 {
-    let mut word = [0u8; Book::BODY];
-    let d = spell::spell(parent, label, node, &mut word);
-    let matched = &word[..d];
+    let entry = wide(shift[node]);
     match closing {
-        Closing::Byte(x) => greater(all_least(
-            parent,
-            label,
-            token,
-            count,
-            matched,
-            x,
-            Best {
-                node: shortest,
-                byte: shortest,
-            },
-        )),
-        Closing::Nothing => greater(all_least(
-            parent,
-            label,
-            token,
-            count,
-            matched,
-            0,
-            Best {
-                node: shortest,
-                byte: 1,
-            },
-        )),
+        Closing::Byte(x) => least(
+            shortest,
+            all_least(parent, label, token, count, shortest, deep, x, entry),
+        ),
+        Closing::Nothing => least(shortest, greater(entry, 1)),
     }
 }

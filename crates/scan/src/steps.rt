@@ -34,19 +34,28 @@ pub enum Move {
 }
 
 // A round ends: its hits are left, and rules 4 to 6.
-pub fn end_round(scan: Scan, parent: &[u16], label: &[u8], token: &[u16], closing: Closing) -> Scan
-    requires { ⌜ Ending (now parent) (now label) (now token) scan ⌝ }
+pub fn end_round(
+    scan: Scan,
+    parent: &[u16],
+    label: &[u8],
+    token: &[u16],
+    shift: &[u16],
+    closing: Closing,
+) -> Scan
+    requires { ⌜ Ending (now parent) (now label) (now token) (now shift) scan ⌝ }
     ensures { λ r. ⌜ ((first next : List ℕ) →
-        let t = tables (now (parent .entry)) (now (label .entry)) (now (token .entry)) first next in
+        let t = tables (now (parent .entry)) (now (label .entry)) (now (token .entry)) first next (now (shift .entry)) in
         r ≡ stepped t scan (endRound (treeOf t scan) (configOf scan) (closingOf closing))) ⌝ }
 {
     let by = shift::shift(
         parent,
         label,
         token,
+        shift,
         scan.count,
         scan.shortest,
         scan.node,
+        scan.depth,
         closing,
     );
     let boundary = scan.boundary + by;
@@ -75,15 +84,16 @@ pub fn take_byte(
     token: &[u16],
     first: &[u16],
     next: &[u16],
+    shift: &[u16],
     byte: u8,
 ) -> Scan
-    requires { ⌜ Stepping (tables (now parent) (now label) (now token) (now first) (now next)) scan ⌝ }
+    requires { ⌜ Stepping (tables (now parent) (now label) (now token) (now first) (now next) (now shift)) scan ⌝ }
     ensures { λ r.
-        let t = tables (now (parent .entry)) (now (label .entry)) (now (token .entry)) (now (first .entry)) (now (next .entry)) in
+        let t = tables (now (parent .entry)) (now (label .entry)) (now (token .entry)) (now (first .entry)) (now (next .entry)) (now (shift .entry)) in
         ⌜ r ≡ stepped t scan (takeByte (treeOf t scan) (configOf scan) byte) ⌝ }
 {
     match trie::chain::child(label, first, next, scan.count, scan.node, byte) {
-        Child::Absent => end_round(scan, parent, label, token, Closing::Byte(byte)),
+        Child::Absent => end_round(scan, parent, label, token, shift, Closing::Byte(byte)),
         Child::At(v) => {
             let mut out = scan;
             out.node = v;
@@ -96,8 +106,8 @@ pub fn take_byte(
 // Rules 1 and 2: what comes next. It leaves the state where it is: a state is large to hand back.
 fn choose(scan: Scan, parent: &[u16], label: &[u8], first: &[u16]) -> Move
     requires { ⌜ Looking (now parent) (now label) (now first) scan ⌝ }
-    ensures { λ r. ⌜ ((token next : List ℕ) →
-        Chosen (tables (now (parent .entry)) (now (label .entry)) token (now (first .entry)) next) scan r) ⌝ }
+    ensures { λ r. ⌜ ((token next shift : List ℕ) →
+        Chosen (tables (now (parent .entry)) (now (label .entry)) token (now (first .entry)) next shift) scan r) ⌝ }
 {
     if scan.image < scan.boundary {
         return Move::Finished;
@@ -132,10 +142,11 @@ pub fn settle(
     token: &[u16],
     first: &[u16],
     next: &[u16],
+    shift: &[u16],
 ) -> Stepped
-    requires { ⌜ Goes (tables (now parent) (now label) (now token) (now first) (now next)) scan ⌝ }
+    requires { ⌜ Goes (tables (now parent) (now label) (now token) (now first) (now next) (now shift)) scan ⌝ }
     ensures { λ r.
-        let t = tables (now (parent .entry)) (now (label .entry)) (now (token .entry)) (now (first .entry)) (now (next .entry)) in
+        let t = tables (now (parent .entry)) (now (label .entry)) (now (token .entry)) (now (first .entry)) (now (next .entry)) (now (shift .entry)) in
         ⌜ steppedOf r ≡ settle t (enough scan) scan ⌝ }
 {
     let mut at = scan;
@@ -158,11 +169,11 @@ pub fn settle(
                 };
             }
             Move::End => {
-                at = end_round(at, parent, label, token, Closing::Nothing);
+                at = end_round(at, parent, label, token, shift, Closing::Nothing);
             }
             Move::Take(x) => {
                 at.spared = one_more(at.spared);
-                at = take_byte(at, parent, label, token, first, next, x);
+                at = take_byte(at, parent, label, token, first, next, shift, x);
             }
         }
     }
@@ -190,14 +201,15 @@ pub fn supply_due(
     token: &[u16],
     first: &[u16],
     next: &[u16],
+    shift: &[u16],
     byte: u8,
 ) -> Stepped
-    requires { ⌜ judged (tables (now parent) (now label) (now token) (now first) (now next)) scan true ≡ none ⌝ }
+    requires { ⌜ judged (tables (now parent) (now label) (now token) (now first) (now next) (now shift)) scan true ≡ none ⌝ }
     ensures { λ r.
-        let t = tables (now (parent .entry)) (now (label .entry)) (now (token .entry)) (now (first .entry)) (now (next .entry)) in
+        let t = tables (now (parent .entry)) (now (label .entry)) (now (token .entry)) (now (first .entry)) (now (next .entry)) (now (shift .entry)) in
         ⌜ steppedOf r ≡ supply t scan byte ⌝ }
 {
     let counted = count_byte(scan);
-    let state = take_byte(counted, parent, label, token, first, next, byte);
-    settle(state, parent, label, token, first, next)
+    let state = take_byte(counted, parent, label, token, first, next, shift, byte);
+    settle(state, parent, label, token, first, next, shift)
 }

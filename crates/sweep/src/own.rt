@@ -19,6 +19,7 @@ pub fn sweep(book: &[u8], image: &[u8], ends: &mut [u32], tokens: &mut [u32]) ->
     let mut token = [0u16; NODES];
     let mut first = [0u16; NODES];
     let mut next = [0u16; NODES];
+    let mut shift = [0u16; NODES];
     image::sweep_image(
         book,
         image,
@@ -27,6 +28,7 @@ pub fn sweep(book: &[u8], image: &[u8], ends: &mut [u32], tokens: &mut [u32]) ->
         &mut token,
         &mut first,
         &mut next,
+        &mut shift,
         ends,
         tokens,
     )

@@ -16,6 +16,10 @@ maxDepth = maxBody
 abbrev pub maxNumber : ℕ
 maxNumber = maxTokens
 
+-- how far a node may shift
+abbrev pub maxShift : ℕ
+maxShift = maxBody
+
 -- A link from node v to `at` is 0, or greater than v, below the count, and has the parent p.
 abbrev pub linked : Tables → ℕ → ℕ → ℕ → ℕ → Bool
 linked t count v at p = eqb at 0 || (ltb v at && ltb at count && eqb (getD (t .parent) at 0) p)
@@ -33,9 +37,13 @@ rootSound t =
 abbrev pub nodeSound : Tables → ℕ → Bool
 nodeSound t v = ltb (getD (t .parent) v 0) v && leb (depth t v) maxDepth && leb (getD (t .token) v 0) maxNumber
 
+-- Every node's shift is 1 to 1,024.
+abbrev pub shifts : Tables → ℕ → Bool
+shifts t v = leb 1 (getD (t .shift) v 0) && leb (getD (t .shift) v 0) maxShift
+
 -- Node v does not break the tables.
 abbrev pub sound : Tables → ℕ → ℕ → Bool
-sound t count v = elim (eqb v 0) [ true ↦ rootSound t && links t count v | false ↦ nodeSound t v && links t count v ]
+sound t count v = elim (eqb v 0) [ true ↦ rootSound t && links t count v && shifts t v | false ↦ nodeSound t v && links t count v && shifts t v ]
 
 -- the first of `fuel` nodes from v on that breaks the tables
 abbrev pub firstBreak : Tables → ℕ → ℕ → ℕ → Option ℕ

@@ -1,4 +1,4 @@
--- The tree tables: a node for each different ending of the words, and the five entries of each node.
+-- The tree tables: a node for each different ending of the words, and the six entries of each node.
 use Prim.Native.Nat.{ℕ, _+_, min}
 use mathlib.Core.Path.{_≡_}
 use mathlib.Core.Bool.{Bool, true, false}
@@ -7,17 +7,18 @@ use lib.Dec.{ltb}
 use lib.ListN.{length}
 use Rattle.rules.specs.Lists.{same, anyOf, numberWhere, over}
 use Rattle.rules.specs.Words.{allWords, numberOf}
-use Rattle.rules.specs.Tokens.{bodyBytes, shortestOf, longestOf}
+use Rattle.rules.specs.Tokens.{bodyBytes, shortestOf, longestOf, nodeShift}
 use Rattle.book.specs.Book.{Verdict, accepted, refused, readBook}
 
--- Five tables with one entry a node: its parent, its label, the number of the token that has its ending for a word (0: none), its first
--- child and its next sibling (0: none).
+-- Six tables with one entry a node: its parent, its label, the number of the token that has its ending for a word (0: none), its first
+-- child and its next sibling (0: none), and rule 5's node shift of its ending.
 pub record Tables : Type 0 where
   pub parent : List ℕ
   pub label : List ℕ
   pub token : List ℕ
   pub first : List ℕ
   pub next : List ℕ
+  pub shift : List ℕ
 
 -- The endings of a word from its last byte leftwards, the shortest first; the empty one is left out.
 abbrev pub endingsOf : List ℕ → List (List ℕ)
@@ -75,6 +76,7 @@ built tokens =
       token = map (numberOf tokens) us;
       first = map (λ u. childFrom 0 u us) us;
       next = siblings 1 us;
+      shift = map (nodeShift (allWords tokens) (shortestOf tokens)) us;
     }
 
 -- t's lists are u's, each with anything behind it
@@ -84,6 +86,7 @@ pub record Lent (t u : Tables) : Type 0 where
   pub tokens : (more : List ℕ) × (t .token ≡ u .token ++ more)
   pub firsts : (more : List ℕ) × (t .first ≡ u .first ++ more)
   pub nexts : (more : List ℕ) × (t .next ≡ u .next ++ more)
+  pub shifts : (more : List ℕ) × (t .shift ≡ u .shift ++ more)
 
 -- t's lists with those of u written over their fronts
 abbrev pub written : Tables → Tables → Tables
@@ -93,11 +96,13 @@ written u t = record {
   token = over (u .token) (t .token);
   first = over (u .first) (t .first);
   next = over (u .next) (t .next);
+  shift = over (u .shift) (t .shift);
 }
 
 abbrev pub shortestTable : Tables → ℕ
 shortestTable t =
-    min (length (t .parent)) (min (length (t .label)) (min (length (t .token)) (min (length (t .first)) (length (t .next)))))
+    min (length (t .parent))
+    (min (length (t .label)) (min (length (t .token)) (min (length (t .first)) (min (length (t .next)) (length (t .shift))))))
 
 -- Refusal 7: a table is shorter than 1 + all body bytes.
 abbrev pub tooShort : Tables → List (List ℕ) → Bool

@@ -1,12 +1,12 @@
--- The rules' nodes as numbers in five tables, built or not: the child with a label, a node's ending, the words.
-use Prim.Native.Nat.{ℕ, zero, suc, _-_}
+-- The rules' nodes as numbers in the tables, built or not: the child with a label, a node's ending, the words, a round's shift.
+use Prim.Native.Nat.{ℕ, zero, suc, _-_, min, max}
 use mathlib.Core.Bool.{true, false}
 use mathlib.Core.List.{List, [], _∷_}
 use mathlib.Core.Option.{Option, some, none}
 use lib.Dec.{eqb}
 use lib.ListN.{length, getD}
 use Rattle.rules.specs.Rules.{Tree}
-use Rattle.rules.specs.Tokens.{shiftOf}
+use Rattle.rules.specs.Tokens.{byteShift}
 use Rattle.tables.specs.Tables.{Tables}
 
 -- The walk along a chain from node `at`: the first with that label, or none at the chain's end.
@@ -53,6 +53,11 @@ abbrev pub words : Tables → ℕ → List (List ℕ)
 words t zero = []
 words t (suc v) = elim (getD (t .token) v 0) [ zero ↦ words t v | suc i ↦ ending t v ∷ words t v ]
 
+-- Rule 5: the greater of node v's entry, as given, and the byte shift; S where that is less.
+abbrev pub shiftFrom : Tables → ℕ → ℕ → ℕ → Option ℕ → ℕ
+shiftFrom t count shortest v closing =
+    min shortest (max (getD (t .shift) v 0) (byteShift (words t count) shortest (depth t v) closing))
+
 -- The rules' tree that the tables are.
 abbrev pub ofTables : Tables → ℕ → ℕ → Tree ℕ
 ofTables t count shortest = record {
@@ -62,5 +67,5 @@ ofTables t count shortest = record {
   token = λ v. getD (t .token) v 0;
   byteAt = λ v k. getD (t .label) (lifted t (depth t v - 1 - k) v) 0;
   ancestor = λ v k. lifted t (depth t v - k) v;
-  shift = λ v c. shiftOf (words t count) shortest (ending t v) c;
+  shift = shiftFrom t count shortest;
 }

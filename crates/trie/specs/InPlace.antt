@@ -6,10 +6,10 @@ use lib.Dec.{eqb}
 use lib.ListN.{length, take, set}
 use Rattle.rules.specs.Words.{allWords}
 use Rattle.tables.specs.Tables.{Tables, nodes, built, written}
-use Rattle.tables.specs.Laws.Inserted.{inserted}
+use Rattle.tables.specs.Laws.Inserted.{inserted, unshifted}
 use Rattle.tables.specs.Laws.Shape.{Shape}
 
--- all five have n entries at least
+-- all but that of shifts have n entries at least
 pub record Room (t : Tables) (n : ℕ) : Type 0 where
   pub parents : n ≤ length (t .parent)
   pub labels : n ≤ length (t .label)
@@ -32,6 +32,7 @@ putFirst t new v x = record {
   token = set (t .token) new 0;
   first = set (set (t .first) new 0) v new;
   next = set (t .next) new 0;
+  shift = t .shift;
 }
 
 abbrev pub putBehind : Tables → ℕ → ℕ → ℕ → ℕ → Tables
@@ -41,12 +42,13 @@ putBehind t new v last x = record {
   token = set (t .token) new 0;
   first = set (t .first) new 0;
   next = set (set (t .next) new 0) last new;
+  shift = t .shift;
 }
 
 abbrev pub putChild : Tables → ℕ → ℕ → ℕ → ℕ → Tables
 putChild t new v last x = elim (eqb last 0) [ true ↦ putFirst t new v x | false ↦ putBehind t new v last x ]
 
--- the first n nodes
+-- the first n nodes, without shifts
 abbrev pub cut : ℕ → Tables → Tables
 cut n t = record {
   parent = take n (t .parent);
@@ -54,6 +56,7 @@ cut n t = record {
   token = take n (t .token);
   first = take n (t .first);
   next = take n (t .next);
+  shift = [];
 }
 
 pub record Placed : Type 0 where
@@ -81,6 +84,7 @@ numbered p i = record {
     token = set (p .tables .token) (p .node) i;
     first = p .tables .first;
     next = p .tables .next;
+    shift = p .tables .shift;
   };
   count = p .count;
 }
@@ -95,6 +99,6 @@ abbrev pub reversedIf : Bool → List ℕ → List ℕ
 reversedIf false body = body
 reversedIf true body = reverse body
 
--- The tables of the tokens, in front of what was there.
+-- The tables of the tokens but for their shifts, in front of what was there.
 unfoldable pub filled : List (List ℕ) → Tables → Counted
-filled tokens t = record { tables = written (built tokens) t; count = length (nodes (allWords tokens)) }
+filled tokens t = record { tables = written (unshifted (built tokens)) t; count = length (nodes (allWords tokens)) }

@@ -1,10 +1,12 @@
 // Refusal 9: the first node that breaks the tables, found in one pass over the nodes.
 ghost use mathlib.Core.Path.{_≡_};
+ghost use mathlib.Core.Bool.{_&&_};
 ghost use mathlib.Core.List.{[]};
 ghost use Prim.Native.Nat.{_-_, _≤_, _<_};
+ghost use lib.Dec.{leb};
 ghost use lib.ListN.{length};
-ghost use Rattle.tables.specs.Broken.{linked, sound, firstBreak, broken, tested};
-ghost use Rattle.trie.specs.Answers.{tables, testedOf, ownSound};
+ghost use Rattle.tables.specs.Broken.{maxShift, linked, sound, firstBreak, broken, tested};
+ghost use Rattle.trie.specs.Answers.{tables, treeOnly, testedOf, ownSound};
 ghost use Rattle.trie.specs.InPlace.{Room};
 ghost use Rattle.tables.specs.Laws.Shape.{up};
 ghost use Rattle.trie.specs.Laws.NodeByNode.{Reach, Chain};
@@ -18,7 +20,7 @@ use book::Book;
 // A link from `node` to `at` is 0, or leads to a later node with the parent `above`.
 fn link_sound(parent: &[u16], count: usize, node: usize, at: usize, above: usize) -> bool
     requires { ⌜ count ≤ length (now parent) ⌝ }
-    ensures { λ r. ⌜ r ≡ linked (tables (now (parent .entry)) [] [] [] []) count node at above ⌝ }
+    ensures { λ r. ⌜ r ≡ linked (treeOnly (now (parent .entry)) [] [] [] []) count node at above ⌝ }
 {
     if at == 0 {
         return true;
@@ -32,19 +34,34 @@ fn link_sound(parent: &[u16], count: usize, node: usize, at: usize, above: usize
     wide(parent[at]) == above
 }
 
-// The root has 0 for parent, label, token and sibling, and its first child has it for parent.
+// A shift is 1 to 1,024.
+fn shift_sound(by: u16) -> bool
+    ensures { λ r. ⌜ r ≡ (leb 1 by && leb by maxShift) ⌝ }
+{
+    if by == 0 {
+        return false;
+    }
+    wide(by) <= Book::BODY
+}
+
+// The root has 0 for parent, label, token and sibling, its first child has it for parent, and its shift is in range.
 fn root_sound(
     parent: &[u16],
     label: &[u8],
     token: &[u16],
     first: &[u16],
     next: &[u16],
+    shift: &[u16],
     count: usize,
 ) -> bool
-    requires { ⌜ Room (tables (now parent) (now label) (now token) (now first) (now next)) count × (0 < count) ⌝ }
+    requires { ⌜
+        Room (treeOnly (now parent) (now label) (now token) (now first) (now next)) count × (0 < count)
+        × (count ≤ length (now shift))
+        ⌝ }
     ensures { λ r. ⌜
         r ≡ sound
-        (tables (now (parent .entry)) (now (label .entry)) (now (token .entry)) (now (first .entry)) (now (next .entry))) count 0
+        (tables (now (parent .entry)) (now (label .entry)) (now (token .entry)) (now (first .entry)) (now (next .entry)) (now (shift .entry)))
+        count 0
         ⌝ }
 {
     if parent[0] != 0 {
@@ -59,7 +76,10 @@ fn root_sound(
     if next[0] != 0 {
         return false;
     }
-    link_sound(parent, count, 0, wide(first[0]), 0)
+    if !link_sound(parent, count, 0, wide(first[0]), 0) {
+        return false;
+    }
+    shift_sound(shift[0])
 }
 
 // The tests of a node after the root, but those of its parent and its depth.
@@ -68,12 +88,13 @@ fn own_sound(
     token: &[u16],
     first: &[u16],
     next: &[u16],
+    shift: &[u16],
     count: usize,
     node: usize,
 ) -> bool
-    requires { ⌜ Reach (tables (now parent) [] (now token) (now first) (now next)) count × (node < count) ⌝ }
+    requires { ⌜ Reach (tables (now parent) [] (now token) (now first) (now next) (now shift)) count × (node < count) ⌝ }
     ensures { λ r. ⌜
-        r ≡ ownSound (tables (now (parent .entry)) [] (now (token .entry)) (now (first .entry)) (now (next .entry))) count node
+        r ≡ ownSound (tables (now (parent .entry)) [] (now (token .entry)) (now (first .entry)) (now (next .entry)) (now (shift .entry))) count node
         ⌝ }
 {
     if Book::TOKENS < wide(token[node]) {
@@ -82,7 +103,10 @@ fn own_sound(
     if !link_sound(parent, count, node, wide(first[node]), node) {
         return false;
     }
-    link_sound(parent, count, node, wide(next[node]), wide(parent[node]))
+    if !link_sound(parent, count, node, wide(next[node]), wide(parent[node])) {
+        return false;
+    }
+    shift_sound(shift[node])
 }
 
 // The end of the chain from `node` on, `last` at the latest: each node before it passes, and the next node is its first child.
@@ -91,15 +115,16 @@ fn chain_end(
     token: &[u16],
     first: &[u16],
     next: &[u16],
+    shift: &[u16],
     count: usize,
     node: usize,
     last: usize,
 ) -> usize
     requires { ⌜
-        Reach (tables (now parent) [] (now token) (now first) (now next)) count × (node ≤ last) × (last < count)
+        Reach (tables (now parent) [] (now token) (now first) (now next) (now shift)) count × (node ≤ last) × (last < count)
         ⌝ }
     ensures { λ r. ⌜
-        Chain (tables (now (parent .entry)) [] (now (token .entry)) (now (first .entry)) (now (next .entry))) count node r
+        Chain (tables (now (parent .entry)) [] (now (token .entry)) (now (first .entry)) (now (next .entry)) (now (shift .entry))) count node r
         × (r ≤ last)
         ⌝ }
 {
@@ -116,6 +141,9 @@ fn chain_end(
         if !link_sound(parent, count, at, wide(next[at]), wide(parent[at])) {
             return at;
         }
+        if !shift_sound(shift[at]) {
+            return at;
+        }
         if wide(first[at]) != after {
             return at;
         }
@@ -125,14 +153,21 @@ fn chain_end(
 }
 
 // The first node after the root that breaks the tables, chain by chain.
-fn later_break(parent: &[u16], token: &[u16], first: &[u16], next: &[u16], count: usize) -> Tested
+fn later_break(
+    parent: &[u16],
+    token: &[u16],
+    first: &[u16],
+    next: &[u16],
+    shift: &[u16],
+    count: usize,
+) -> Tested
     requires { ⌜
-        Reach (tables (now parent) [] (now token) (now first) (now next)) count
-        × (0 < count) × (up (tables (now parent) [] (now token) (now first) (now next)) 0 ≡ 0)
+        Reach (tables (now parent) [] (now token) (now first) (now next) (now shift)) count
+        × (0 < count) × (up (tables (now parent) [] (now token) (now first) (now next) (now shift)) 0 ≡ 0)
         ⌝ }
     ensures { λ r. ⌜
         testedOf r ≡ tested (firstBreak
-        (tables (now (parent .entry)) [] (now (token .entry)) (now (first .entry)) (now (next .entry))) count (count - 1) 1)
+        (tables (now (parent .entry)) [] (now (token .entry)) (now (first .entry)) (now (next .entry)) (now (shift .entry))) count (count - 1) 1)
         ⌝ }
 {
     let mut node = 1;
@@ -148,8 +183,8 @@ fn later_break(parent: &[u16], token: &[u16], first: &[u16], next: &[u16], count
             return Tested::Breaks(node);
         }
         let last = least(count - 1, node + (Book::BODY - depth));
-        let end = chain_end(parent, token, first, next, count, node, last);
-        if !own_sound(parent, token, first, next, count, end) {
+        let end = chain_end(parent, token, first, next, shift, count, node, last);
+        if !own_sound(parent, token, first, next, shift, count, end) {
             return Tested::Breaks(end);
         }
         depth += end - node;
@@ -165,22 +200,23 @@ pub fn first_break(
     token: &[u16],
     first: &[u16],
     next: &[u16],
+    shift: &[u16],
     count: usize,
 ) -> Tested
     ensures { λ r. ⌜
         testedOf r ≡ tested (broken
-        (tables (now (parent .entry)) (now (label .entry)) (now (token .entry)) (now (first .entry)) (now (next .entry))) count)
+        (tables (now (parent .entry)) (now (label .entry)) (now (token .entry)) (now (first .entry)) (now (next .entry)) (now (shift .entry))) count)
         ⌝ }
 {
-    let least = shortest(parent, label, token, first, next);
+    let least = shortest(parent, label, token, first, next, shift);
     if least < count {
         return Tested::Breaks(least);
     }
     if count == 0 {
         return Tested::Sound;
     }
-    if !root_sound(parent, label, token, first, next, count) {
+    if !root_sound(parent, label, token, first, next, shift, count) {
         return Tested::Breaks(0);
     }
-    later_break(parent, token, first, next, count)
+    later_break(parent, token, first, next, shift, count)
 }

@@ -2,8 +2,8 @@
 ghost use mathlib.Core.Path.{_≡_};
 ghost use mathlib.Core.List.{[]};
 ghost use Rattle.tables.specs.Walks.{childBy};
-ghost use Rattle.trie.specs.Answers.{tables, childOf};
-ghost use Rattle.trie.specs.Chain.{walked};
+ghost use Rattle.trie.specs.Answers.{treeOnly, childOf};
+ghost use Rattle.trie.specs.Chain.{walked, Kids};
 use crate::Child;
 use crate::entries::entry;
 use crate::entries::label_at;
@@ -45,11 +45,29 @@ pub fn child(
     byte: u8,
 ) -> Child
     ensures { λ r. ⌜
-        childOf r ≡ childBy (tables [] (now (label .entry)) [] (now (first .entry)) (now (next .entry))) count node byte
+        childOf r ≡ childBy (treeOnly [] (now (label .entry)) [] (now (first .entry)) (now (next .entry))) count node byte
         ⌝ }
 {
     match walk(label, next, count, entry(first, node), byte) {
         Way::Found(at) => Child::At(at),
         Way::Ends(_) => Child::Absent,
     }
+}
+
+// The root's children by label, 0 for none: of two with one label the first, as a walk would find it.
+pub fn root_children(label: &[u8], first: &[u16], next: &[u16], count: usize) -> [u16; 256]
+    ensures { λ r. ⌜ Kids (now (label .entry)) (now (first .entry)) (now (next .entry)) count r ⌝ }
+{
+    let mut kids = [0u16; 256];
+    let mut at = entry(first, 0);
+    let mut left = count;
+    while left != 0 && at != 0 {
+        let x = label_at(label, at) as usize;
+        if kids[x] == 0 {
+            kids[x] = at as u16;
+        }
+        at = entry(next, at);
+        left -= 1;
+    }
+    kids
 }

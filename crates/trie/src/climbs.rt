@@ -4,14 +4,14 @@ ghost use mathlib.Core.List.{[]};
 ghost use Prim.Native.Nat.{_+_, _-_, _<_};
 ghost use lib.ListN.{length};
 ghost use Rattle.tables.specs.Walks.{depth};
-ghost use Rattle.trie.specs.Answers.{tables};
+ghost use Rattle.trie.specs.Answers.{treeOnly};
 ghost use Rattle.tables.specs.Laws.Shape.{Falling, up};
 use crate::entries::wide;
 
 // The depth of `node`, a step a parent.
 fn climb(parent: &[u16], node: usize) -> usize
-    requires { ⌜ Falling (tables (now parent) [] [] [] []) (node + 1) × (node < length (now parent)) ⌝ }
-    ensures { λ r. ⌜ r ≡ depth (tables (now (parent .entry)) [] [] [] []) node ⌝ }
+    requires { ⌜ Falling (treeOnly (now parent) [] [] [] []) (node + 1) × (node < length (now parent)) ⌝ }
+    ensures { λ r. ⌜ r ≡ depth (treeOnly (now (parent .entry)) [] [] [] []) node ⌝ }
 {
     let mut at = node;
     let mut steps: usize = 0;
@@ -26,10 +26,10 @@ fn climb(parent: &[u16], node: usize) -> usize
 // climbed from.
 pub fn depth_at(parent: &[u16], node: usize, above: usize, before: usize) -> usize
     requires { ⌜
-        Falling (tables (now parent) [] [] [] []) (node + 1) × (node < length (now parent)) × (0 < node)
-        × (above ≡ up (tables (now parent) [] [] [] []) node) × (before ≡ depth (tables (now parent) [] [] [] []) (node - 1))
+        Falling (treeOnly (now parent) [] [] [] []) (node + 1) × (node < length (now parent)) × (0 < node)
+        × (above ≡ up (treeOnly (now parent) [] [] [] []) node) × (before ≡ depth (treeOnly (now parent) [] [] [] []) (node - 1))
         ⌝ }
-    ensures { λ r. ⌜ r ≡ depth (tables (now (parent .entry)) [] [] [] []) node ⌝ }
+    ensures { λ r. ⌜ r ≡ depth (treeOnly (now (parent .entry)) [] [] [] []) node ⌝ }
 {
     if above == node - 1 {
         before + 1

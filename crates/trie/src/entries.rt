@@ -1,6 +1,6 @@
 // The entries of lent tables as numbers: 0 past a table's end. And the length of the shortest table.
 ghost use mathlib.Core.Path.{_≡_};
-ghost use Prim.Native.Nat.{min};
+ghost use Prim.Native.Nat.{max, min};
 ghost use lib.ListN.{getD};
 ghost use Rattle.tables.specs.Tables.{shortestTable};
 ghost use Rattle.trie.specs.Answers.{tables};
@@ -30,17 +30,33 @@ pub fn least(a: usize, b: usize) -> usize
     if a < b { a } else { b }
 }
 
-pub fn shortest(parent: &[u16], label: &[u8], token: &[u16], first: &[u16], next: &[u16]) -> usize
+pub fn greater(a: usize, b: usize) -> usize
+    ensures { λ r. ⌜ r ≡ max a b ⌝ }
+{
+    if a < b { b } else { a }
+}
+
+pub fn shortest(
+    parent: &[u16],
+    label: &[u8],
+    token: &[u16],
+    first: &[u16],
+    next: &[u16],
+    shift: &[u16],
+) -> usize
     ensures { λ r. ⌜
         r ≡ shortestTable
-        (tables (now (parent .entry)) (now (label .entry)) (now (token .entry)) (now (first .entry)) (now (next .entry)))
+        (tables (now (parent .entry)) (now (label .entry)) (now (token .entry)) (now (first .entry)) (now (next .entry)) (now (shift .entry)))
         ⌝ }
 {
     least(
         parent.len(),
         least(
             label.len(),
-            least(token.len(), least(first.len(), next.len())),
+            least(
+                token.len(),
+                least(first.len(), least(next.len(), shift.len())),
+            ),
         ),
     )
 }

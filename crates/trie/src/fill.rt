@@ -3,7 +3,7 @@ ghost use mathlib.Core.Path.{_≡_};
 ghost use mathlib.Core.List.{List};
 ghost use Prim.Native.Nat.{ℕ};
 ghost use Rattle.book.specs.Book.{readBook, accepted};
-ghost use Rattle.trie.specs.Answers.{tables};
+ghost use Rattle.trie.specs.Answers.{treeOnly};
 ghost use Rattle.trie.specs.InPlace.{filled};
 ghost use Rattle.trie.specs.Laws.TokensInPlace.{Fillable};
 use crate::insert::insert_words;
@@ -18,15 +18,15 @@ pub fn fill(
     next: &mut [u16],
     many: usize,
 ) -> usize
-    requires { ⌜ Fillable (now book) (tables (now parent) (now label) (now token) (now first) (now next)) many ⌝ }
+    requires { ⌜ Fillable (now book) (treeOnly (now parent) (now label) (now token) (now first) (now next)) many ⌝ }
     ensures { λ r. ⌜
         ((ts : List (List ℕ)) → readBook (now (book .entry)) ≡ accepted ts
         → record {
-          tables = tables (now (parent .exit)) (now (label .exit)) (now (token .exit)) (now (first .exit)) (now (next .exit));
+          tables = treeOnly (now (parent .exit)) (now (label .exit)) (now (token .exit)) (now (first .exit)) (now (next .exit));
           count = r;
         }
         ≡ filled ts
-        (tables (now (parent .entry)) (now (label .entry)) (now (token .entry)) (now (first .entry)) (now (next .entry))))
+        (treeOnly (now (parent .entry)) (now (label .entry)) (now (token .entry)) (now (first .entry)) (now (next .entry))))
         ⌝ }
 {
     parent[0] = 0;

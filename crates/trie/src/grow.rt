@@ -2,7 +2,7 @@
 ghost use mathlib.Core.Path.{_≡_};
 ghost use mathlib.Core.List.{[], _∷_};
 ghost use Prim.Native.Nat.{_+_, _<_};
-ghost use Rattle.trie.specs.Answers.{tables};
+ghost use Rattle.trie.specs.Answers.{treeOnly};
 ghost use Rattle.trie.specs.InPlace.{Room, Ready, putChild, placed};
 use crate::chain::Way;
 use crate::chain::walk;
@@ -27,13 +27,13 @@ fn put_child(
     byte: u8,
 )
     requires { ⌜
-        Room (tables (now parent) (now label) (now token) (now first) (now next)) (new + 1)
+        Room (treeOnly (now parent) (now label) (now token) (now first) (now next)) (new + 1)
         × (new < 65536) × (node < new) × (last < new)
         ⌝ }
     ensures { λ r. ⌜
-        tables (now (parent .exit)) (now (label .exit)) (now (token .exit)) (now (first .exit)) (now (next .exit))
+        treeOnly (now (parent .exit)) (now (label .exit)) (now (token .exit)) (now (first .exit)) (now (next .exit))
         ≡ putChild
-        (tables (now (parent .entry)) (now (label .entry)) (now (token .entry)) (now (first .entry)) (now (next .entry)))
+        (treeOnly (now (parent .entry)) (now (label .entry)) (now (token .entry)) (now (first .entry)) (now (next .entry)))
         new node last byte
         ⌝ }
 {
@@ -60,15 +60,15 @@ pub fn step(
     node: usize,
     byte: u8,
 ) -> Place
-    requires { ⌜ Ready (tables (now parent) (now label) (now token) (now first) (now next)) count node 1 ⌝ }
+    requires { ⌜ Ready (treeOnly (now parent) (now label) (now token) (now first) (now next)) count node 1 ⌝ }
     ensures { λ r. ⌜
         record {
-          tables = tables (now (parent .exit)) (now (label .exit)) (now (token .exit)) (now (first .exit)) (now (next .exit));
+          tables = treeOnly (now (parent .exit)) (now (label .exit)) (now (token .exit)) (now (first .exit)) (now (next .exit));
           count = r .count;
           node = r .node;
         }
         ≡ placed
-        (tables (now (parent .entry)) (now (label .entry)) (now (token .entry)) (now (first .entry)) (now (next .entry)))
+        (treeOnly (now (parent .entry)) (now (label .entry)) (now (token .entry)) (now (first .entry)) (now (next .entry)))
         count node (byte ∷ [])
         ⌝ }
 {

@@ -5,14 +5,14 @@ ghost use Prim.Native.Nat.{ℕ, _+_, _<_};
 ghost use lib.ListN.{length, getD};
 ghost use Rattle.rules.specs.Words.{wordsOf};
 ghost use Rattle.rules.specs.Tokens.{total};
-ghost use Rattle.trie.specs.Answers.{tables};
+ghost use Rattle.trie.specs.Answers.{treeOnly};
 ghost use Rattle.trie.specs.Laws.Over.{Kept};
 ghost use Rattle.trie.specs.InPlace.{Ready, placed, numbered, reversedIf, placedWords};
 use crate::grow::step;
 use book::words::has_reverse;
 
 // Byte i of a body in book order, or reversed.
-fn byte_at(body: &[u8], reversed: bool, i: usize) -> u8
+pub fn byte_at(body: &[u8], reversed: bool, i: usize) -> u8
     requires { ⌜ i < length (now body) ⌝ }
     ensures { λ r. ⌜ r ≡ getD (reversedIf reversed (now (body .entry))) i 0 ⌝ }
 {
@@ -36,25 +36,25 @@ fn insert(
     number: usize,
 ) -> usize
     requires { ⌜
-        Ready (tables (now parent) (now label) (now token) (now first) (now next)) count 0 (length (now body)) × (number < 65536)
+        Ready (treeOnly (now parent) (now label) (now token) (now first) (now next)) count 0 (length (now body)) × (number < 65536)
         ⌝ }
     ensures tables { λ r. ⌜
         record {
-          tables = tables (now (parent .exit)) (now (label .exit)) (now (token .exit)) (now (first .exit)) (now (next .exit));
+          tables = treeOnly (now (parent .exit)) (now (label .exit)) (now (token .exit)) (now (first .exit)) (now (next .exit));
           count = r;
         }
         ≡ numbered (placed
-        (tables (now (parent .entry)) (now (label .entry)) (now (token .entry)) (now (first .entry)) (now (next .entry)))
+        (treeOnly (now (parent .entry)) (now (label .entry)) (now (token .entry)) (now (first .entry)) (now (next .entry)))
         count 0 (reverse (reversedIf reversed (now (body .entry))))) number
         ⌝ }
     ensures kept { λ r. ⌜
-        Kept (tables (now (parent .entry)) (now (label .entry)) (now (token .entry)) (now (first .entry)) (now (next .entry)))
-        (tables (now (parent .exit)) (now (label .exit)) (now (token .exit)) (now (first .exit)) (now (next .exit)))
+        Kept (treeOnly (now (parent .entry)) (now (label .entry)) (now (token .entry)) (now (first .entry)) (now (next .entry)))
+        (treeOnly (now (parent .exit)) (now (label .exit)) (now (token .exit)) (now (first .exit)) (now (next .exit)))
         ⌝ }
     ensures ready { λ r. ⌜
-        ((j : ℕ) → Ready (tables (now (parent .entry)) (now (label .entry)) (now (token .entry)) (now (first .entry)) (now (next .entry)))
+        ((j : ℕ) → Ready (treeOnly (now (parent .entry)) (now (label .entry)) (now (token .entry)) (now (first .entry)) (now (next .entry)))
         count 0 (length (now (body .entry)) + j)
-        → Ready (tables (now (parent .exit)) (now (label .exit)) (now (token .exit)) (now (first .exit)) (now (next .exit))) r 0 j)
+        → Ready (treeOnly (now (parent .exit)) (now (label .exit)) (now (token .exit)) (now (first .exit)) (now (next .exit))) r 0 j)
         ⌝ }
 {
     let mut nodes = count;
@@ -83,15 +83,15 @@ pub fn insert_words(
     number: usize,
 ) -> usize
     requires { ⌜
-        Ready (tables (now parent) (now label) (now token) (now first) (now next)) count 0 (total (wordsOf (now body))) × (number < 65536)
+        Ready (treeOnly (now parent) (now label) (now token) (now first) (now next)) count 0 (total (wordsOf (now body))) × (number < 65536)
         ⌝ }
     ensures { λ r. ⌜
         record {
-          tables = tables (now (parent .exit)) (now (label .exit)) (now (token .exit)) (now (first .exit)) (now (next .exit));
+          tables = treeOnly (now (parent .exit)) (now (label .exit)) (now (token .exit)) (now (first .exit)) (now (next .exit));
           count = r;
         }
         ≡ placedWords
-        (tables (now (parent .entry)) (now (label .entry)) (now (token .entry)) (now (first .entry)) (now (next .entry)))
+        (treeOnly (now (parent .entry)) (now (label .entry)) (now (token .entry)) (now (first .entry)) (now (next .entry)))
         count number (wordsOf (now (body .entry)))
         ⌝ }
 {

@@ -1,5 +1,5 @@
 // The tree tables: the walk along a node's children, the test that tables are a tree, and their building from a book.
-// Tables are always lent in the order parent, label, token, first child, next sibling.
+// Tables are always lent in the order parent, label, token, first child, next sibling, shift.
 mod breaks;
 pub mod chain;
 mod climbs;
@@ -7,6 +7,8 @@ pub mod entries;
 mod fill;
 mod grow;
 mod insert;
+mod shifts;
+mod walks;
 
 pub use breaks::first_break;
 ghost use mathlib.Core.Path.{_≡_};
@@ -18,6 +20,7 @@ use book::Reading;
 use book::Refusal;
 use entries::shortest;
 use fill::fill;
+use shifts::fill_shifts;
 
 // The child of a node with a label, by its number.
 pub enum Child {
@@ -88,24 +91,35 @@ pub fn build(
     token: &mut [u16],
     first: &mut [u16],
     next: &mut [u16],
+    shift: &mut [u16],
 ) -> Building
     ensures { λ r. ⌜
         record {
           answer = answerOf r;
-          tables = tables (now (parent .exit)) (now (label .exit)) (now (token .exit)) (now (first .exit)) (now (next .exit));
+          tables = tables (now (parent .exit)) (now (label .exit)) (now (token .exit)) (now (first .exit)) (now (next .exit)) (now (shift .exit));
         }
         ≡ build (now (book .entry))
-        (tables (now (parent .entry)) (now (label .entry)) (now (token .entry)) (now (first .entry)) (now (next .entry)))
+        (tables (now (parent .entry)) (now (label .entry)) (now (token .entry)) (now (first .entry)) (now (next .entry)) (now (shift .entry)))
         ⌝ }
 {
     match book::read(book) {
         Reading::Refused(why) => Building::Unread(why),
         Reading::Accepted(totals) => {
             let room = 1 + totals.bodies;
-            if shortest(parent, label, token, first, next) < room {
+            if shortest(parent, label, token, first, next, shift) < room {
                 return Building::TooShort(room);
             }
             let nodes = fill(book, parent, label, token, first, next, totals.tokens);
+            fill_shifts(
+                book,
+                parent,
+                label,
+                first,
+                next,
+                shift,
+                nodes,
+                totals.shortest,
+            );
             Building::Made(Sizes {
                 nodes,
                 shortest: totals.shortest,

@@ -23,11 +23,12 @@ tree = record {
   token = 0 ∷ 2 ∷ 1 ∷ 3 ∷ [];
   first = 1 ∷ 2 ∷ 0 ∷ 0 ∷ [];
   next = 0 ∷ 3 ∷ 0 ∷ 0 ∷ 7 ∷ [];
+  shift = 1 ∷ 1 ∷ 1 ∷ 5 ∷ [];
 }
 
--- parent, label, token, first child, next sibling, place, length
+-- parent, label, token, first child, next sibling, shift, place, length
 row : Node → List ℕ
-row n = n .parent ∷ n .label ∷ n .token ∷ n .first ∷ n .next ∷ n .place ∷ n .length ∷ []
+row n = n .parent ∷ n .label ∷ n .token ∷ n .first ∷ n .next ∷ n .shift ∷ n .place ∷ n .length ∷ []
 
 rows : List (List ℕ)
 unfolding row book refusedBook tree
@@ -36,17 +37,17 @@ rows =
     ∷ row (nodeOf book tree 1)  -- "a", token 2
     ∷ row (nodeOf book tree 2)  -- "ba", token 1
     ∷ row (nodeOf book tree 3)  -- token 3 is not in the book
-    ∷ row (nodeOf book tree 4)  -- four tables lack the entry
+    ∷ row (nodeOf book tree 4)  -- five tables lack the entry
     ∷ row (nodeOf refusedBook tree 1)  -- the book is refused
     ∷ []
 
 rows-right : rows
-    ≡ (0 ∷ 0 ∷ 0 ∷ 1 ∷ 0 ∷ 0 ∷ 0 ∷ [])
-    ∷ (0 ∷ 97 ∷ 2 ∷ 2 ∷ 3 ∷ 4 ∷ 1 ∷ [])
-    ∷ (1 ∷ 98 ∷ 1 ∷ 0 ∷ 0 ∷ 1 ∷ 2 ∷ [])
-    ∷ (0 ∷ 99 ∷ 3 ∷ 0 ∷ 0 ∷ 0 ∷ 0 ∷ [])
-    ∷ (0 ∷ 0 ∷ 0 ∷ 0 ∷ 7 ∷ 0 ∷ 0 ∷ [])
-    ∷ (0 ∷ 97 ∷ 2 ∷ 2 ∷ 3 ∷ 0 ∷ 0 ∷ [])
+    ≡ (0 ∷ 0 ∷ 0 ∷ 1 ∷ 0 ∷ 1 ∷ 0 ∷ 0 ∷ [])
+    ∷ (0 ∷ 97 ∷ 2 ∷ 2 ∷ 3 ∷ 1 ∷ 4 ∷ 1 ∷ [])
+    ∷ (1 ∷ 98 ∷ 1 ∷ 0 ∷ 0 ∷ 1 ∷ 1 ∷ 2 ∷ [])
+    ∷ (0 ∷ 99 ∷ 3 ∷ 0 ∷ 0 ∷ 5 ∷ 0 ∷ 0 ∷ [])
+    ∷ (0 ∷ 0 ∷ 0 ∷ 0 ∷ 7 ∷ 0 ∷ 0 ∷ 0 ∷ [])
+    ∷ (0 ∷ 97 ∷ 2 ∷ 2 ∷ 3 ∷ 1 ∷ 0 ∷ 0 ∷ [])
     ∷ []
 unfolding rows row book refusedBook tree
 rows-right = refl
@@ -63,8 +64,9 @@ cards = build both (record {
   token = replicate 10 0;
   first = replicate 10 0;
   next = replicate 10 0;
+  shift = replicate 10 0;
 }) .tables
 
-both-right : row (nodeOf both cards 5) ∷ row (nodeOf both cards 8) ∷ [] ≡ (4 ∷ 97 ∷ 2 ∷ 0 ∷ 0 ∷ 3 ∷ 4 ∷ []) ∷ (7 ∷ 120 ∷ 2 ∷ 0 ∷ 0 ∷ 3 ∷ 4 ∷ []) ∷ []
+both-right : row (nodeOf both cards 5) ∷ row (nodeOf both cards 8) ∷ [] ≡ (4 ∷ 97 ∷ 2 ∷ 0 ∷ 0 ∷ 1 ∷ 3 ∷ 4 ∷ []) ∷ (7 ∷ 120 ∷ 2 ∷ 0 ∷ 0 ∷ 1 ∷ 3 ∷ 4 ∷ []) ∷ []
 unfolding row both cards built
 both-right = refl

@@ -1,4 +1,4 @@
--- What the view shows of a node: its five entries, and the place and length of its token's body.
+-- What the view shows of a node: its six entries, and the place and length of its token's body.
 use Prim.Native.Nat.{ℕ}
 use mathlib.Core.List.{List}
 use lib.ListN.{getD}
@@ -21,6 +21,7 @@ shown t node b = record {
   token = getD (t .token) node 0;
   first = getD (t .first) node 0;
   next = getD (t .next) node 0;
+  shift = getD (t .shift) node 0;
   place = b .place;
   length = b .length;
 }

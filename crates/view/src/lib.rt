@@ -10,13 +10,14 @@ use entries::entry;
 use trie::entries::label_at;
 use trie::entries::wide;
 
-// A node's five entries, and the place and length of its token's body; 0 for what there is not.
+// A node's six entries, and the place and length of its token's body; 0 for what there is not.
 pub struct Node {
     pub parent: u16,
     pub label: u8,
     pub token: u16,
     pub first: u16,
     pub next: u16,
+    pub shift: u16,
     pub place: usize,
     pub length: usize,
 }
@@ -52,11 +53,12 @@ pub fn node_of(
     token: &[u16],
     first: &[u16],
     next: &[u16],
+    shift: &[u16],
     node: usize,
 ) -> Node
     ensures { λ r. ⌜
         r ≡ nodeOf (now (book .entry))
-        (tables (now (parent .entry)) (now (label .entry)) (now (token .entry)) (now (first .entry)) (now (next .entry))) node
+        (tables (now (parent .entry)) (now (label .entry)) (now (token .entry)) (now (first .entry)) (now (next .entry)) (now (shift .entry))) node
         ⌝ }
 {
     let ends = entry(token, node);
@@ -67,6 +69,7 @@ pub fn node_of(
         token: ends,
         first: entry(first, node),
         next: entry(next, node),
+        shift: entry(shift, node),
         place: body.place,
         length: body.length,
     }
@@ -86,14 +89,15 @@ impl<'a> View<'a> {
         token: &[u16],
         first: &[u16],
         next: &[u16],
+        shift: &[u16],
         node: usize,
     ) -> Node
         ensures { λ r. ⌜
             r ≡ nodeOf (now (self .entry .book))
             (tables (now (parent .entry)) (now (label .entry)) (now (token .entry))
-            (now (first .entry)) (now (next .entry))) node
+            (now (first .entry)) (now (next .entry)) (now (shift .entry))) node
             ⌝ }
     {
-        node_of(self.book, parent, label, token, first, next, node)
+        node_of(self.book, parent, label, token, first, next, shift, node)
     }
 }

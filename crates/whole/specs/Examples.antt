@@ -21,7 +21,7 @@ image = 97 ∷ 97 ∷ 98 ∷ []
 
 -- tables of n entries and a buffer of n entries, as they are lent
 abbrev nines : ℕ → Tables
-nines n = record { parent = replicate n 9; label = replicate n 9; token = replicate n 9; first = replicate n 9; next = replicate n 9 }
+nines n = record { parent = replicate n 9; label = replicate n 9; token = replicate n 9; first = replicate n 9; next = replicate n 9; shift = replicate n 9 }
 
 abbrev eights : ℕ → List ℕ
 eights n = replicate n 8
@@ -34,6 +34,7 @@ three = record {
   token = 0 ∷ 1 ∷ 2 ∷ 9 ∷ [];
   first = 1 ∷ 2 ∷ 0 ∷ 9 ∷ [];
   next = 0 ∷ 0 ∷ 0 ∷ 9 ∷ [];
+  shift = 1 ∷ 1 ∷ 1 ∷ 9 ∷ [];
 }
 
 -- The sweep, with buffers of so many entries.

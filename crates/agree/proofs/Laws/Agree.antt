@@ -1,4 +1,4 @@
--- The test of one word, and the loops that search its shift.
+-- The test of one word, and the loop that searches its shift.
 use Prim.Native.Nat.{ℕ, suc, _+_, _-_, _≤_, _<_}
 use native.Mathlib.Omega.{arith}
 use mathlib.Core.Path.{_≡_, ap, sym, _∙_}

@@ -1,11 +1,12 @@
 -- The tokens of an accepted book are the bodies of its records, one record after the other, with 00h at the end; and where token
--- number i stands.
+-- number i stands. And what a walk over the records has passed.
 use Prim.Native.Nat.{ℕ, zero, suc, _+_, _-_, _≤_, _<_}
 use native.Mathlib.Omega.{arith}
-use mathlib.Core.Path.{_≡_}
-use mathlib.Core.List.{List, [], _∷_, _++_}
+use mathlib.Core.Path.{_≡_, refl, sym, _∙_}
+use mathlib.Core.List.{List, [], _∷_, _++_, append-assoc, append-nil}
 use borrow.Author.Tests.{le-leb}
 use lib.ListN.{length, getD, take, drop, length-append}
+use lib.Seq.{getD-append-seam}
 use Rattle.rules.specs.Tokens.{total}
 use Rattle.book.specs.Book.{found, accepted, maxBody, sizeAt, bodyAt, wholeAt, readBook, recordPlace, placeIn}
 use Rattle.book.specs.Laws.Accepted.{total-snoc}
@@ -86,3 +87,52 @@ module _ (book : List ℕ) (tokens : List (List ℕ)) (read : readBook book ≡ 
     accepted-body =
         let z : i + total (take (i - 1) tokens) ≡ recordPlace tokens (i - 1) + 1 = omega arith in
         rw z (accepted-held .body)
+
+-- The tokens `done` are passed, up to place `at`, and the records from there to the closing 00h have the others.
+pub record Passing (book : List ℕ) (tokens : List (List ℕ)) (at : ℕ) (done : List (List ℕ)) : Type 0 where
+  pub rest : List (List ℕ)
+  pub all : done ++ rest ≡ tokens
+  pub records : Records book at rest
+  pub size : length book ≡ at + 1 + length rest + total rest
+
+pub passing-none : (book : List ℕ) (tokens : List (List ℕ)) → readBook book ≡ accepted tokens → Passing book tokens 0 []
+passing-none book tokens read = record {
+  rest = tokens;
+  all = refl;
+  records = accepted-records book tokens read;
+  size = omega (arith, accepted-size book tokens read);
+}
+
+module _ {book : List ℕ} {tokens : List (List ℕ)} {at : ℕ} {done : List (List ℕ)} (p : Passing book tokens at done) where
+  -- The record at `at`, of n body bytes, is passed too.
+  pub passing-more : at + 1 < length book → (n : ℕ) → n ≡ wholeAt book at
+      → Passing book tokens (at + 1 + n) (done ++ (take (at + 1 + n - (at + 1)) (drop (at + 1) book) ∷ []))
+  passing-more h n w = go (p .rest) (p .all) (p .records) (p .size)
+    where
+      go : (rest : List (List ℕ)) → done ++ rest ≡ tokens → Records book at rest → length book ≡ at + 1 + length rest + total rest
+          → Passing book tokens (at + 1 + n) (done ++ (take (at + 1 + n - (at + 1)) (drop (at + 1) book) ∷ []))
+      go [] e k z = absurd (omega arith)
+      go (t ∷ rest) e k z =
+          let m : n ≡ length t = w ∙ k .0 .whole in
+          let part : at + 1 + n - (at + 1) ≡ length t = omega arith in
+          rw (part, k .0 .body) (record {
+            rest = rest;
+            all = append-assoc done (t ∷ []) rest ∙ e;
+            records = rw m (k .1);
+            size = omega arith;
+          })
+
+  -- None is left.
+  pub passing-all : length book ≤ at + 1 → done ≡ tokens
+  passing-all h = go (p .rest) (p .all) (p .size)
+    where
+      go : (rest : List (List ℕ)) → done ++ rest ≡ tokens → length book ≡ at + 1 + length rest + total rest → done ≡ tokens
+      go [] e z = sym (append-nil done) ∙ e
+      go (t ∷ rest) e z = absurd (omega arith)
+
+-- The last of those passed is one of the tokens.
+pub passing-last : (book : List ℕ) (tokens : List (List ℕ)) (at : ℕ) (done : List (List ℕ)) (t : List ℕ) → Passing book tokens at (done ++ (t ∷ []))
+    → (length done < length tokens) × (getD tokens (length done) [] ≡ t)
+passing-last book tokens at done t p =
+    let e : done ++ t ∷ p .rest ≡ tokens = sym (append-assoc done (t ∷ []) (p .rest)) ∙ p .all in
+    rw (← e) (simp length-append (omega arith), getD-append-seam done t (p .rest) [])

@@ -1,7 +1,7 @@
 -- What is given once a book is built and a sweep is started: tables that represent the tokens, and the fresh state.
 use Prim.Native.Nat.{ℕ, suc, _+_, _*_, _≤_}
 use native.Mathlib.Omega.{arith}
-use mathlib.Core.Path.{_≡_, ap, _∙_}
+use mathlib.Core.Path.{_≡_, refl, ap, _∙_}
 use mathlib.Core.List.{List}
 use borrow.Author.Tests.{ltb-false}
 use lib.ListN.{length}
@@ -14,7 +14,7 @@ use Rattle.rules.specs.Laws.Alike.{trace-same}
 use Rattle.rules.specs.Laws.Limit.Looks.{looks-split}
 use Rattle.book.specs.Book.{readBook, accepted, refused, maxImage, tooLong}
 use Rattle.book.specs.Laws.Sweep.{book-looks}
-use Rattle.book.specs.Laws.Accepted.{accepted-fit, accepted-shortest, accepted-setting, accepted-longest}
+use Rattle.book.specs.Laws.Accepted.{accepted-fit, accepted-some, accepted-shortest, accepted-setting, accepted-longest}
 use Rattle.tables.specs.Tables.{Tables, nodes, built, Lent}
 use Rattle.tables.specs.Walks.{ending, ofTables}
 use Rattle.tables.specs.Laws.Represents.{built-represents}
@@ -40,9 +40,10 @@ module _ (book : List ℕ) (tokens : List (List ℕ)) (read : readBook book ≡ 
   pub given : (n : ℕ) → n ≤ maxImage → Given tokens (shortestOf tokens) (longestOf tokens) t (length (nodes (allWords tokens))) n
   given n h =
       let f = accepted-fit book tokens read in
-      let r = built-represents tokens f t lent in
+      let r = built-represents tokens f (accepted-some book tokens read) t lent in
       record {
         setting = accepted-setting book tokens read;
+        shortest = refl;
         long = accepted-longest book tokens read .0;
         short = accepted-longest book tokens read .1;
         first = accepted-shortest book tokens read .1;

@@ -7,7 +7,7 @@ use Rattle.gateway.proofs.lonnatchi_build.Tie as tie
 
 returns : tie.Need-returns
 returns c =
-    let e = c .before .before .before .before .before .before .before .before .before .before .before .build .ensures in
+    let e = c .before .before .before .before .before .before .before .before .before .before .before .before .before .build .ensures in
     (c .numbers .ensures ∙ ap (λ s. builtOf (s .answer)) e, ap (λ s. s .tables) e)
 
 pub lonnatchi-build-spec : {M : Type 1} → statement M
@@ -16,6 +16,7 @@ lonnatchi-build-spec =
     (tie.spec
     (λ c κs. search needs)
     (λ c κs. search needs)
+    (λ c. search needs)
     (λ c. search needs)
     (λ c. search needs)
     (λ c. search needs)

@@ -1,7 +1,7 @@
--- A cache stays right where it is given a shift that is right, and the shifts fit its entries; and the greater of two shifts.
-use Prim.Native.Nat.{ℕ, _+_, _-_, _*_, _<_, max}
+-- The cache stays right where it is given a shift that is right, and the shifts fit its entries; and the greater of two shifts.
+use Prim.Native.Nat.{ℕ, _+_, _*_, _≤_, _<_, max}
 use native.Mathlib.Omega.{arith}
-use mathlib.Core.Path.{_≡_, ap, sym, _∙_}
+use mathlib.Core.Path.{_≡_, ap, _∙_}
 use mathlib.Core.Bool.{Bool}
 use mathlib.Core.List.{List}
 use mathlib.Core.Option.{Option, some, none}
@@ -9,12 +9,11 @@ use lib.ListN.{length, getD, set, length-set}
 use lib.Seq.{getD-set-same, getD-set-other}
 use mir.Syntax.{w16}
 use mir.Val.{Fits}
-use Rattle.rules.specs.Lists.{anyOf}
-use Rattle.rules.specs.Tokens.{nodeShift, byteShift, shiftOf}
-use Rattle.rules.specs.Laws.Tests.{split, least-ge}
-use Rattle.agree.specs.Tests.{nodeTest, leastOf}
+use Rattle.rules.specs.Tokens.{byteShift}
+use Rattle.rules.specs.Laws.Tests.{split}
+use Rattle.agree.specs.Tests.{leastOf}
 use Rattle.agree.specs.Laws.Least.{least-bounds}
-use Rattle.image.specs.Rule5.{wordsIn, Accepted, nameOf, Right, ByNode, ByByte}
+use Rattle.image.specs.Rule5.{wordsIn, Accepted, Right, ByByte}
 use Rattle.image.proofs.Laws.Rule5.{shortest-near}
 
 -- An entry of the cache that is given `by` at i.
@@ -30,12 +29,6 @@ least-fits p {book} {S} a by e =
     record { fits = omega (arith, least-bounds p (wordsIn book) S (near .0)) }
 
 module _ {book : List ℕ} {S : ℕ} {cache : List ℕ} (by : ℕ) where
-  pub by-node-set : ByNode book S cache → (node : ℕ) → node < length cache → by ≡ nodeShift (wordsIn book) S (nameOf book node)
-      → ByNode book S (set cache node by)
-  by-node-set b node h e = record {
-    right = λ v. set-right cache node by v _ h (λ z. e ∙ ap (λ v. nodeShift (wordsIn book) S (nameOf book v)) (sym z)) (b .right v);
-  }
-
   -- Two places of a cache by depth and byte are one only if depth and byte are the same.
   pub by-byte-set : ByByte book S cache → (depth byte : ℕ) → depth < 64 → byte < 256
       → by ≡ byteShift (wordsIn book) S depth (some byte) → ByByte book S (set cache (256 * depth + byte) by)
@@ -50,11 +43,11 @@ module _ {book : List ℕ} {S : ℕ} {cache : List ℕ} (by : ℕ) where
         (b .right d x kd kx);
   }
 
--- Rule 5 for the matched bytes u, with their node shift.
-module _ (words : List (List ℕ)) (S : ℕ) (u : List ℕ) (by : ℕ) (e : by ≡ nodeShift words S u) (closing : Option ℕ) where
-  pub shift-nothing : closing ≡ none → by ≡ shiftOf words S u closing
-  shift-nothing z = rw z (omega (arith, least-ge (λ s. anyOf (λ w. nodeTest u w s) words) 1 (S - 1)))
+-- Rule 5, d deep, with the node's entry.
+module _ (words : List (List ℕ)) (S d entry by : ℕ) (e : by ≡ entry) (closing : Option ℕ) where
+  pub shift-nothing : 1 ≤ entry → closing ≡ none → by ≡ max entry (byteShift words S d closing)
+  shift-nothing h z = rw z (omega arith)
 
-  pub shift-byte : (x : ℕ) → closing ≡ some x → (on : ℕ) → on ≡ byteShift words S (length u) (some x) → (r : ℕ) → r ≡ max by on
-      → r ≡ shiftOf words S u closing
+  pub shift-byte : (x : ℕ) → closing ≡ some x → (on : ℕ) → on ≡ byteShift words S d (some x) → (r : ℕ) → r ≡ max by on
+      → r ≡ max entry (byteShift words S d closing)
   shift-byte x z on f r q = rw (z, q, e, f)

@@ -37,17 +37,17 @@ module _ (part : ℕ × ℕ → ℕ) (r : ℕ) where
       p ∙ notes-over r (map part found) l₀ h ∙ ap (λ xs. over xs l₀) (take-part r found ∙ ap (λ f. map part (take r f)) e)
 
 -- These hits are found; the buffers hold as many as there is room for.
-pub record Rounding (book image : List ℕ) (shortest : ℕ) (ends₀ tokens₀ ends tokens nodes bytes skip pairs : List ℕ) (at : Standing) : Type 0 where
+pub record Rounding (book image : List ℕ) (shortest : ℕ) (ends₀ tokens₀ ends tokens bytes skip pairs : List ℕ) (at : Standing) : Type 0 where
   pub found : List (ℕ × ℕ)
   pub stands : Stands book image at found
-  pub caches : Caches book image shortest nodes bytes skip pairs
+  pub caches : Caches book image shortest bytes skip pairs
   pub ends-hold : ends ≡ notes (room ends₀ tokens₀) 0 (map (λ h. h .0) found) ends₀
   pub tokens-hold : tokens ≡ notes (room ends₀ tokens₀) 0 (map (λ h. h .1) found) tokens₀
 
-pub rounding-begins : {book image label token first next : List ℕ} {count shortest : ℕ} {nodes bytes skip pairs : List ℕ} {at : Standing} (ends tokens : List ℕ)
-    → Given book image label token first next count shortest → Caches book image shortest nodes bytes skip pairs
+pub rounding-begins : {book image label token first next shift : List ℕ} {count shortest : ℕ} {bytes skip pairs : List ℕ} {at : Standing} (ends tokens : List ℕ)
+    → Given book image label token first next shift count shortest → Caches book image shortest bytes skip pairs
     → at .boundary ≡ shortest → (inUse (at .spans) ≡ []) × (at .spans .used ≡ 0) → (at .fetched ≡ 0) × (at .spared ≡ 0) × (at .hits ≡ 0)
-    → Rounding book image shortest ends tokens ends tokens nodes bytes skip pairs at
+    → Rounding book image shortest ends tokens ends tokens bytes skip pairs at
 rounding-begins {book} {image} {at = at} ends tokens g c e u z = record {
   found = [];
   stands = begins book image at (g .read .read) (e ∙ g .read .short) (u .0) (u .1) (z .0) (z .1) (z .2);
@@ -56,8 +56,8 @@ rounding-begins {book} {image} {at = at} ends tokens g c e u z = record {
   tokens-hold = refl;
 }
 
-module _ {book image : List ℕ} {shortest : ℕ} {ends₀ tokens₀ ends tokens nodes bytes skip pairs : List ℕ} {at : Standing}
-    (l : Rounding book image shortest ends₀ tokens₀ ends tokens nodes bytes skip pairs at) where
+module _ {book image : List ℕ} {shortest : ℕ} {ends₀ tokens₀ ends tokens bytes skip pairs : List ℕ} {at : Standing}
+    (l : Rounding book image shortest ends₀ tokens₀ ends tokens bytes skip pairs at) where
   pub ends-long : length ends ≡ length ends₀
   ends-long = ap length (l .ends-hold) ∙ notes-length (room ends₀ tokens₀) 0 (map (λ h. h .0) (l .found)) ends₀
 
@@ -71,7 +71,7 @@ module _ {book image : List ℕ} {shortest : ℕ} {ends₀ tokens₀ ends tokens
   rounding-small w = (omega (arith, l .stands .near), looks-small book image at (l .found) (l .stands) w)
 
   -- Rounds can be skimmed, and that finds nothing; a round can begin.
-  pub rounding-skimmable : {label token first next : List ℕ} {count : ℕ} → Given book image label token first next count shortest
+  pub rounding-skimmable : {label token first next shift : List ℕ} {count : ℕ} → Given book image label token first next shift count shortest
       → Skimmable image skip pairs shortest (at .boundary) (at .spans .used)
   rounding-skimmable g = record {
     book = book;
@@ -85,9 +85,9 @@ module _ {book image : List ℕ} {shortest : ℕ} {ends₀ tokens₀ ends tokens
     short = g .read .short;
   }
 
-  pub rounding-skims : {label token first next : List ℕ} {count : ℕ} → Given book image label token first next count shortest
+  pub rounding-skims : {label token first next shift : List ℕ} {count : ℕ} → Given book image label token first next shift count shortest
       → {b looks : ℕ} → Leads image skip pairs shortest (at .boundary) (at .spans .used) b looks
-      → Rounding book image shortest ends₀ tokens₀ ends tokens nodes bytes skip pairs (onAt at b looks)
+      → Rounding book image shortest ends₀ tokens₀ ends tokens bytes skip pairs (onAt at b looks)
   rounding-skims g leads = record {
     found = l .found;
     stands = leads .stands book (l .caches .by-skip) (l .caches .by-pair) (g .read .short) at refl refl (l .found) (l .stands);
@@ -99,9 +99,9 @@ module _ {book image : List ℕ} {shortest : ℕ} {ends₀ tokens₀ ends tokens
   pub rounding-begun : at .boundary ≤ length image → Begun book image (at .boundary) (at .hits)
   rounding-begun h = record { at = at; known = known; place = refl; so-far = refl; inside = h }
 
-  pub rounding-again : {after : Standing} {ends′ tokens′ nodes′ bytes′ skip′ pairs′ : List ℕ}
-      → Goes book image at after ends ends′ tokens tokens′ → Caches book image shortest nodes′ bytes′ skip′ pairs′
-      → Rounding book image shortest ends₀ tokens₀ ends′ tokens′ nodes′ bytes′ skip′ pairs′ after
+  pub rounding-again : {after : Standing} {ends′ tokens′ bytes′ skip′ pairs′ : List ℕ}
+      → Goes book image at after ends ends′ tokens tokens′ → Caches book image shortest bytes′ skip′ pairs′
+      → Rounding book image shortest ends₀ tokens₀ ends′ tokens′ bytes′ skip′ pairs′ after
   rounding-again {ends′ = ends′} {tokens′} g c =
       let r : room ends tokens ≡ room ends₀ tokens₀ = omega (arith, ends-long, tokens-long) in
       record {

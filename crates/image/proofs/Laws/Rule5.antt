@@ -1,21 +1,20 @@
--- The loops over the records of an accepted book, which keep the least shift of the words of the tokens passed.
+-- The loop over the records of an accepted book, which keeps the least shift of the words of the tokens passed.
 use Prim.Native.Nat.{ℕ, _+_, _-_, _≤_, _<_}
 use native.Mathlib.Omega.{arith}
-use mathlib.Core.Path.{_≡_, refl, ap, sym, _∙_}
+use mathlib.Core.Path.{_≡_, ap, sym, _∙_}
 use mathlib.Core.Bool.{Bool, true, false}
-use mathlib.Core.List.{List, [], _∷_, _++_, append-assoc, append-nil, reverse}
+use mathlib.Core.List.{List, [], _∷_, _++_, reverse}
 use lib.ListN.{length, take, drop, replicate, length-reverse}
 use lib.Seq.{take-at}
 use Rattle.rules.specs.Lists.{least, over}
 use Rattle.rules.specs.Words.{hasReverse, wordsOf, allWords}
-use Rattle.rules.specs.Tokens.{total}
 use Rattle.rules.specs.Laws.Over.{over-length}
 use Rattle.rules.specs.Laws.Words.{words-both, words-own, turned-bytes, words-snoc}
 use Rattle.agree.specs.Tests.{leastOf}
 use Rattle.agree.specs.Laws.Least.{least-none, least-one, least-words, least-bounds}
 use Rattle.book.specs.Book.{maxBody, wholeAt}
 use Rattle.book.specs.Laws.Accepted.{accepted-shortest}
-use Rattle.book.specs.Laws.Records.{Records, accepted-records, accepted-size}
+use Rattle.book.specs.Laws.Records.{Passing, passing-none, passing-more, passing-all}
 use Rattle.image.specs.Rule5.{tokensOf, wordsIn, Accepted}
 
 -- S is the length of a token.
@@ -45,23 +44,17 @@ module _ (body into : List ℕ) (t : hasReverse body ≡ true) (e : into ≡ ove
   pub reverse-front : take (length body) into ≡ reverse body
   reverse-front = rw e (take-at (reverse body) (drop (length (reverse body)) (replicate 10 0)) (length body) (length-reverse body))
 
--- The tokens `done` are passed, up to place `at`, and the records from there to the closing 00h have the others.
+-- The tokens `done` are passed, up to place `at`, and the least shift of their words is at hand.
 pub record Passed (p : List ℕ → ℕ → Bool) (book : List ℕ) (S best at : ℕ) : Type 0 where
   pub done : List (List ℕ)
-  pub rest : List (List ℕ)
-  pub all : done ++ rest ≡ tokensOf book
-  pub records : Records book at rest
-  pub size : length book ≡ at + 1 + length rest + total rest
+  pub passing : Passing book (tokensOf book) at done
   pub least-is : best ≡ leastOf p (allWords done) S
 
 module _ (p : List ℕ → ℕ → Bool) {book : List ℕ} {S : ℕ} (a : Accepted book S) where
   pub passed-none : Passed p book S S 0
   passed-none = record {
     done = [];
-    rest = tokensOf book;
-    all = refl;
-    records = accepted-records book (tokensOf book) (a .read);
-    size = omega (arith, accepted-size book (tokensOf book) (a .read));
+    passing = passing-none book (tokensOf book) (a .read);
     least-is = sym (least-none p S (shortest-near a .0));
   }
 
@@ -72,31 +65,16 @@ module _ (p : List ℕ → ℕ → Bool) {book : List ℕ} {S : ℕ} (a : Accept
 
     pub passed-more : at + 1 < length book → (n : ℕ) → n ≡ wholeAt book at
         → (r : ℕ) → r ≡ leastOf p (wordsOf (take (at + 1 + n - (at + 1)) (drop (at + 1) book))) best → Passed p book S r (at + 1 + n)
-    passed-more h n w r q = go (l .rest) (l .all) (l .records) (l .size)
-      where
-        go : (rest : List (List ℕ)) → l .done ++ rest ≡ tokensOf book → Records book at rest → length book ≡ at + 1 + length rest + total rest
-            → Passed p book S r (at + 1 + n)
-        go [] e k z = absurd (omega arith)
-        go (t ∷ rest) e k z =
-            let m : n ≡ length t = w ∙ k .0 .whole in
-            let part : at + 1 + n - (at + 1) ≡ length t = omega arith in
-            record {
-              done = l .done ++ (t ∷ []);
-              rest = rest;
-              all = append-assoc (l .done) (t ∷ []) rest ∙ e;
-              records = rw m (k .1);
-              size = omega arith;
-              least-is =
-                  rw (part, k .0 .body) at q ∙ ap (leastOf p (wordsOf t)) (l .least-is)
-                  ∙ least-words p (allWords (l .done)) S (shortest-near a .0) (wordsOf t)
-                  ∙ ap (λ ws. leastOf p ws S) (sym (words-snoc (l .done) t));
-            }
+    passed-more h n w r q =
+        let t = take (at + 1 + n - (at + 1)) (drop (at + 1) book) in
+        record {
+          done = l .done ++ (t ∷ []);
+          passing = passing-more (l .passing) h n w;
+          least-is =
+              q ∙ ap (leastOf p (wordsOf t)) (l .least-is) ∙ least-words p (allWords (l .done)) S (shortest-near a .0) (wordsOf t)
+              ∙ ap (λ ws. leastOf p ws S) (sym (words-snoc (l .done) t));
+        }
 
     -- None is left.
     pub passed-all : length book ≤ at + 1 → best ≡ leastOf p (wordsIn book) S
-    passed-all h = go (l .rest) (l .all) (l .size)
-      where
-        go : (rest : List (List ℕ)) → l .done ++ rest ≡ tokensOf book → length book ≡ at + 1 + length rest + total rest
-            → best ≡ leastOf p (wordsIn book) S
-        go [] e z = l .least-is ∙ ap (λ ts. leastOf p (allWords ts) S) (sym (append-nil (l .done)) ∙ e)
-        go (t ∷ rest) e z = absurd (omega arith)
+    passed-all h = l .least-is ∙ ap (λ ts. leastOf p (allWords ts) S) (passing-all (l .passing) h)

@@ -10,7 +10,7 @@ use Rattle.rules.specs.Words.{allWords}
 use Rattle.rules.specs.Tokens.{bodyBytes}
 use Rattle.rules.specs.Laws.Tests.{decide}
 use Rattle.book.specs.Book.{Verdict, Reading, accepted, refused, Totals, summary, readBook, maxImage, tooLong}
-use Rattle.book.specs.Laws.Accepted.{Summed, accepted-fit}
+use Rattle.book.specs.Laws.Accepted.{Summed, accepted-fit, accepted-some}
 use Rattle.tables.specs.Tables.{Tables, nodes, built, Lent, written, tooShort, shortestTable, Sizes, sizesOf, Building, build}
 use Rattle.tables.specs.Laws.Made.{written-lent, answerTo, build-made}
 use Rattle.tables.specs.Laws.Represents.{built-represents}
@@ -157,16 +157,15 @@ module _ {book : List ℕ} (image : List ℕ) {t u : Tables} {sizes : Sizes} (b 
   ts = tokensOf book
 
   -- what the sweep over the built tables asks for
-  pub built-given : Given book image (u .label) (u .token) (u .first) (u .next) (sizes .nodes) (sizes .shortest)
+  pub built-given : Given book image (u .label) (u .token) (u .first) (u .next) (u .shift) (sizes .nodes) (sizes .shortest)
   built-given =
       let fit = accepted-fit book ts (b .read) in
-      let r = built-represents ts fit u (subst (λ u. Lent u (built ts)) (sym (b .filled)) (written-lent (built ts) t)) in
+      let r = built-represents ts fit (accepted-some book ts (b .read)) u (subst (λ u. Lent u (built ts)) (sym (b .filled)) (written-lent (built ts) t)) in
       let n : sizes .nodes ≡ length (nodes (allWords ts)) = ap (λ s. s .nodes) (b .sized) in
       record {
         parent = u .parent;
         read = record { read = b .read; short = ap (λ s. s .shortest) (b .sized) };
         stands = rw n r;
-        nodes = omega (arith, n, r .few, fit .bodies);
         within = small;
       }
 

@@ -1,5 +1,5 @@
 -- The end of a round: what the skip cache learns, that the shift is as the rules say, and so what is fetched and remembered.
-use Prim.Native.Nat.{ℕ, suc, _+_, _-_, _*_, _^_, _≤_, _<_}
+use Prim.Native.Nat.{ℕ, suc, _+_, _-_, _*_, _^_, _≤_, _<_, max}
 use native.Mathlib.Omega.{arith}
 use mathlib.Core.Path.{_≡_, refl, ap, sym, _∙_}
 use mathlib.Core.List.{List, [], _∷_}
@@ -7,11 +7,11 @@ use mathlib.Core.Bool.{true, _&&_}
 use mathlib.Core.Option.{Option, some, none}
 use borrow.Author.Tests.{eqb-true, ltb-true}
 use lib.Dec.{eqb, ltb}
-use lib.ListN.{length, take, drop, getD, set, length-set}
+use lib.ListN.{length, getD, set, length-set}
 use lib.Seq.{getD-set-same, getD-set-other}
-use Rattle.rules.specs.Words.{allWords}
-use Rattle.rules.specs.Tokens.{ofTokens, shiftOf, shortestOf}
-use Rattle.rules.specs.Laws.Tests.{split, and-l, and-r}
+use Rattle.rules.specs.Lists.{anyOf}
+use Rattle.rules.specs.Tokens.{fits, nodeShift, byteShift, ofTokens, shiftOf, shortestOf}
+use Rattle.rules.specs.Laws.Tests.{split, and-l, and-r, least-ge}
 use Rattle.rules.specs.Laws.Limit.Count.{loose}
 use Rattle.image.specs.declared.walk.Stop.{Stop}
 use Rattle.image.specs.declared.walk.Stop.the-variants.{Byte, Nothing}
@@ -21,11 +21,11 @@ use Rattle.image.specs.declared.spans.Spans.{Spans}
 use Rattle.image.specs.Rounds.{Reached, lowest}
 use Rattle.book.specs.Book.{maxImage}
 use Rattle.image.specs.Spans.{inUse, renewed, Fits}
-use Rattle.image.specs.Rule5.{tokensOf, wordsIn, Accepted, closingOf, nameOf, BySkip}
+use Rattle.image.specs.Rule5.{tokensOf, wordsIn, Accepted, closingOf, BySkip}
 use Rattle.image.specs.Sweeping.{Standing, Known, lowestOf, Learns, endAt, shiftAt, ByPair, Sees, Ended}
 use Rattle.image.specs.Laws.Roots.{first-shut, down-closes}
 use Rattle.image.specs.Laws.Spans.{none-renewed, none-loose, loose-upto}
-use Rattle.image.specs.Laws.RoundByRound.{depths, matched, raised, renewed-few, stands-fit, looks-small}
+use Rattle.image.specs.Laws.RoundByRound.{depths, matches, raised, renewed-few, stands-fit, looks-small}
 
 -- The leftmost place.
 pub lowest-upto : (b depth : ℕ) (stop : Stop) → lowestOf b depth stop ≤ b
@@ -63,22 +63,22 @@ by-pair-set {book} {image} {cache} {x} {by = by} y hy hx one bare c l b = record
       (λ e. rw (getD-set-other cache (256 * y + x) (256 * v + u) by 0 e) (b .right v u hv hu));
 }
 
-none-met : (m : List ℕ) → length m ≡ 0 → m ≡ []
-none-met [] e = refl
-none-met (i ∷ m) e = absurd (omega arith)
+empty : (l : List ℕ) → length l ≡ 0 → l ≡ []
+empty [] e = refl
+empty (x ∷ l) e = absurd (omega arith)
 
--- The round from a standing ended where the rules say.
-pub record Arrives (book image : List ℕ) (shortest : ℕ) (at : Standing) (arrival : Arrival) : Type 0 where
+-- The round from a standing ended where the rules say, at a node with its shift.
+pub record Arrives (book image shift : List ℕ) (shortest : ℕ) (at : Standing) (arrival : Arrival) : Type 0 where
   pub read : Accepted book shortest
   pub known : Known book image at
   pub place : at .boundary ≤ length image
-  pub below : arrival .node < 16385
-  pub named : nameOf book (arrival .node) ≡ endAt book image (at .boundary) .node
+  pub held : arrival .node < length shift
+  pub entry : getD shift (arrival .node) 0 ≡ nodeShift (wordsIn book) shortest (endAt book image (at .boundary) .node)
   pub deep : arrival .depth ≡ endAt book image (at .boundary) .depth
   pub closing : closingOf (arrival .stop) ≡ endAt book image (at .boundary) .closing
   pub many : arrival .met ≡ length (endAt book image (at .boundary) .tokens)
 
-module _ {book image : List ℕ} {S : ℕ} {at : Standing} {arrival : Arrival} (a : Arrives book image S at arrival) where
+module _ {book image shift : List ℕ} {S : ℕ} {at : Standing} {arrival : Arrival} (a : Arrives book image shift S at arrival) where
   abbrev b : ℕ
   b = at .boundary
 
@@ -88,28 +88,22 @@ module _ {book image : List ℕ} {S : ℕ} {at : Standing} {arrival : Arrival} (
   abbrev r : Reached (List ℕ)
   r = endAt book image b
 
-  -- what the round matched
-  abbrev part : List ℕ
-  part = take (b - (b - d)) (drop (b - d) image)
-
   pub arrives-deep : d ≤ b
   arrives-deep = omega (arith, a .deep, depths book image at (a .known .found) (a .known .stands) (a .place))
 
-  part-is : part ≡ r .node
-  part-is =
-      let z : b - (b - d) ≡ d = omega (arith, arrives-deep) in
-      rw (z, a .deep) (sym (matched book image at (a .known .found) (a .known .stands) (a .place)))
+  long : d ≡ length (r .node)
+  long = a .deep ∙ matches book image at (a .known .found) (a .known .stands) (a .place)
 
-  pub arrives-named : part ≡ nameOf book (arrival .node)
-  arrives-named = part-is ∙ sym (a .named)
+  pub arrives-some : 1 ≤ getD shift (arrival .node) 0
+  arrives-some = rw (a .entry) (least-ge (λ s. anyOf (λ w. fits (r .node) w s) (wordsIn book)) 1 (S - 1))
 
   -- Its shift.
-  module _ (by : ℕ) (e : by ≡ shiftOf (wordsIn book) S part (closingOf (arrival .stop))) where
+  module _ (by : ℕ) (e : by ≡ max (getD shift (arrival .node) 0) (byteShift (wordsIn book) S d (closingOf (arrival .stop)))) where
+    by-rule : by ≡ shiftOf (wordsIn book) S (r .node) (r .closing)
+    by-rule = rw (a .entry, long, a .closing) at e
+
     by-is : by ≡ shiftAt book image b
-    by-is =
-        let ts = tokensOf book in
-        e ∙ ap (λ u. shiftOf (allWords ts) S u (closingOf (arrival .stop))) part-is ∙ ap (shiftOf (allWords ts) S (r .node)) (a .closing)
-        ∙ ap (λ n. shiftOf (allWords ts) n (r .node) (r .closing)) (a .read .short)
+    by-is = by-rule ∙ ap (λ n. shiftOf (wordsIn book) n (r .node) (r .closing)) (a .read .short)
 
     pub by-near : by ≤ 1024
     by-near = rw by-is (raised book image at (a .known .found) (a .known .stands) (a .place) .1)
@@ -118,7 +112,7 @@ module _ {book image : List ℕ} {S : ℕ} {at : Standing} {arrival : Arrival} (
     learns = record {
       none = λ x z c.
           first-shut (tokensOf book) (shortestOf (tokensOf book)) image b x (sym (a .deep) ∙ z) (sym (a .closing) ∙ c);
-      right = λ x z c. let k : b - (b - d) ≡ 0 = omega arith in rw (k, c) at e;
+      right = λ x z c. rw (empty (r .node) (sym long ∙ z), sym (a .closing) ∙ c) at by-rule;
     }
 
     pub sees : (x : ℕ) → x ≡ getD image (b - 1) 0 → Sees book image x d (arrival .stop) (arrival .met) by
@@ -135,7 +129,7 @@ module _ {book image : List ℕ} {S : ℕ} {at : Standing} {arrival : Arrival} (
             second = rw p at (k .0);
             deep = deep;
             closing = shut;
-            unmet = none-met (endAt book image b .tokens) (sym (a .many) ∙ bare);
+            unmet = empty (endAt book image b .tokens) (sym (a .many) ∙ bare);
             shift = by-is;
           };
     }

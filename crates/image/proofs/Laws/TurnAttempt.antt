@@ -38,9 +38,9 @@ closing-stop : (o : Option ℕ) → closingOf (stopOf o) ≡ o
 closing-stop none = refl
 closing-stop (some x) = refl
 
-module _ {book image label token first next : List ℕ} {count shortest : ℕ} (g : Given book image label token first next count shortest) where
+module _ {book image label token first next shift : List ℕ} {count shortest : ℕ} (g : Given book image label token first next shift count shortest) where
   abbrev t : Tables
-  t = tables (g .parent) label token first next
+  t = tables (g .parent) label token first next shift
 
   abbrev S : ℕ
   S = shortestOf (tokensOf book)
@@ -75,15 +75,15 @@ module _ {book image label token first next : List ℕ} {count shortest : ℕ} (
       same : Same (tokensOf book) S t count (g .stands) image b (reached here image b) (endAt book image b)
       same = reached-same (tokensOf book) S t count (g .stands) image b
 
-      pub round-arrives : Arrives book image shortest at arrival
+      pub round-arrives : Arrives book image shift shortest at arrival
       round-arrives =
-          subst (Arrives book image shortest at) (sym e)
+          subst (Arrives book image shift shortest at) (sym e)
           (record {
             read = g .read;
             known = k;
             place = h;
-            below = omega (arith, same .below, g .nodes);
-            named = g .stands .named (reached here image b .node) (same .below) ∙ same .node;
+            held = omega (arith, same .below, g .stands .held);
+            entry = g .stands .node-shift (reached here image b .node) (same .below) ∙ rw (same .node, ← g .read .short);
             deep = same .depth;
             closing = closing-stop (reached here image b .closing) ∙ same .closing;
             many = ap length (same .tokens-same);

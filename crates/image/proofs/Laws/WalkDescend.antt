@@ -12,15 +12,16 @@ use lib.ListN.{length, getD, set}
 use lib.Seq.{getD-set-same, getD-set-other}
 use Rattle.rules.specs.Rules.{Tree}
 use Rattle.tables.specs.Walks.{childBy}
-use Rattle.trie.specs.Answers.{tables, childOf}
+use Rattle.trie.specs.Answers.{treeOnly, childOf}
+use Rattle.trie.specs.Chain.{Kids}
 use Rattle.trie.specs.declared.Child.{Child}
 use Rattle.trie.specs.declared.Child.the-variants.{At, Absent}
 use Rattle.image.specs.declared.walk.Stop.the-variants.{Byte, Nothing}
 use Rattle.image.specs.declared.walk.Arrival.{Arrival}
 use Rattle.image.specs.Rounds.{meeting, down, reached}
-use Rattle.image.specs.Walk.{treeIn, Walkable, newest, Kids, stopOf, arrivalOf}
+use Rattle.image.specs.Walk.{treeIn, Walkable, newest, stopOf, arrivalOf}
 use Rattle.image.specs.Laws.Roots.{down-deeper}
-use Rattle.image.proofs.Laws.WalkChildren.{child-in, child-below, root-none, root-some}
+use Rattle.image.proofs.Laws.WalkChildren.{child-in, child-below, root-shut, root-child}
 use Rattle.image.proofs.Laws.Walk.{ended, down-stop, down-shut, down-on}
 
 -- The numbers that are kept.
@@ -90,11 +91,11 @@ module _ {label token first next : List ℕ} {count : ℕ} (t : Walkable label t
     pub descend-none : w ≡ 0 → (kept : List ℕ) → Arrived kept (record { node = 0; depth = 0; stop = Byte x; met = 0 })
     descend-none e kept =
         let is : down tree image b (suc b) 0 0 [] ≡ ended 0 0 (some x) [] =
-        down-shut tree image b b 0 0 [] x starts place (root-none label token first next count x kids k byte (sym to ∙ e)) in
+        down-shut tree image b b 0 0 [] x starts place (root-shut label token first next count k x byte (sym to ∙ e)) in
         (sym (ap arrivalOf is), (sym (ap (λ r. r .tokens) is), omega arith))
 
     child-of : (w ≡ 0 → ⊥) → tree .child 0 x ≡ some w
-    child-of h = root-some label token first next count x kids k byte w to h
+    child-of h = root-child label token first next count k x byte w to h
 
     pub child-held : (w ≡ 0 → ⊥) → w < count
     child-held h = t .below 0 x w (t .some-node) (child-of h)
@@ -125,7 +126,7 @@ module _ {label token first next : List ℕ} {count : ℕ} (t : Walkable label t
     descend-done h = arrives none (down-stop tree image b (b - depth) node depth (newest kept m) h)
 
     module _ (on : (tree .leaf node || eqb depth b) ≡ false) (x : ℕ) (is : x ≡ getD image (b - 1 - depth) 0)
-        (k : Child) (found : childOf k ≡ childBy (tables [] label [] first next) count node x) where
+        (k : Child) (found : childOf k ≡ childBy (treeOnly [] label [] first next) count node x) where
       pub descend-shut : k ≡ Absent → Arrived kept (record { node = node; depth = depth; stop = Byte x; met = m })
       descend-shut e =
           arrives (some x) (down-shut tree image b (b - depth) node depth (newest kept m) x on is (child-in label token first next count node x k Absent found e))

@@ -8,7 +8,7 @@ use mathlib.Core.List.{List, [], _∷_, _++_}
 use mathlib.Core.Option.{Option, some, none}
 use borrow.Author.Tests.{eqb-false, le-ltb}
 use lib.Dec.{eqb}
-use lib.ListN.{length, getD, take, drop}
+use lib.ListN.{length, getD}
 use Rattle.rules.specs.Rules.{Tree, Stretch, Config, Event, Step, goes, hitsUp, recall, ended, shiftedBy, endRound, taken, look, next, follow, trace}
 use Rattle.rules.specs.Words.{allWords}
 use Rattle.rules.specs.Tokens.{ofTokens, shiftOf}
@@ -20,7 +20,7 @@ use Rattle.rules.specs.Laws.Limit.Span.{Spans, kept-spans}
 use Rattle.rules.specs.Laws.Limit.Count.{loose}
 use Rattle.rules.specs.Laws.Limit.Ends.{stepsLeft, steps-enough, less-end}
 use Rattle.rules.specs.Laws.Limit.Looks.{looks-split, end-looks}
-use Rattle.rules.specs.Laws.Exact.Reads.{byteOf, reads-under}
+use Rattle.rules.specs.Laws.Exact.Reads.{byteOf}
 use Rattle.rules.specs.Laws.Exact.Shift.{Known, shift-ge}
 use Rattle.rules.specs.Laws.Exact.Configs.{Inv, end-inv, recall-known}
 use Rattle.rules.specs.Laws.Exact.Walk.{NextGood, next-good}
@@ -73,7 +73,7 @@ module _ (tokens : List (List ℕ)) (S D : ℕ) (setting : Setting tokens S D) (
     pub finds : hitsFrom fuel k b ss ≡ met (ofTokens tokens S) image b ++ hitsFrom left count (b + raise b) (afterwards b ss)
     pub inside : ending b .depth ≤ b
     pub short : ending b .depth ≤ D
-    pub bytes : ending b .node ≡ take (ending b .depth) (drop (b - ending b .depth) image)
+    pub deep : ending b .depth ≡ length (ending b .node)
 
   -- The round at boundary b.
   module _ (b : ℕ) (ss : List (Stretch (List ℕ))) (spans : Spans D b 0 ss) (h : b ≤ length image) where
@@ -190,10 +190,6 @@ module _ (tokens : List (List ℕ)) (S D : ℕ) (setting : Setting tokens S D) (
     walks (suc f) zero k v d m i near l = absurd (omega arith)
     walks (suc f) (suc fuel) k v d m i near l = walks-on f fuel (walks f fuel) k v d m i near l
 
-    -- The node where the round ends has the image's bytes.
-    end-bytes : (v : List ℕ) (d : ℕ) → Inv (byteOf image) D (here v d) → v ≡ take d (drop (b - d) image)
-    end-bytes v d i = reads-under image b d (i .inside) h v (sym (i .deep)) (i .reads)
-
     -- What holds at the start of a round holds again after it.
     over-starts : (r : Reached (List ℕ)) (left : ℕ) → Inv (byteOf image) D (here (r .node) (r .depth))
         → stepsLeft (length image) D b (r .depth) ≤ left → Starts (over r .boundary) (over r .stretches) left
@@ -222,7 +218,7 @@ module _ (tokens : List (List ℕ)) (S D : ℕ) (setting : Setting tokens S D) (
           finds = w .finds ∙ ap (λ l. l ++ hits (run (w .left) (w .count) (over (ending b)))) (met-is tokens S b image);
           inside = w .inv .inside;
           short = w .inv .short;
-          bytes = end-bytes (ending b .node) (ending b .depth) (w .inv);
+          deep = w .inv .deep;
         }
 
   pub round : (b : ℕ) (ss : List (Stretch (List ℕ))) (fuel k : ℕ) → Starts b ss fuel → b ≤ length image → Round b ss fuel k

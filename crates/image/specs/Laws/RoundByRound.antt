@@ -3,7 +3,7 @@ use Prim.Native.Nat.{ℕ, suc, _+_, _-_, _*_, _≤_, _<_, _^_}
 use native.Mathlib.Omega.{arith}
 use mathlib.Core.Path.{_≡_, refl, ap, sym, subst, _∙_}
 use mathlib.Core.List.{List, [], _∷_, _++_, append-nil, append-assoc}
-use lib.ListN.{length, take, drop, length-append}
+use lib.ListN.{length, length-append}
 use Rattle.rules.specs.Rules.{Stretch, Event, done, trace}
 use Rattle.rules.specs.Words.{allWords}
 use Rattle.rules.specs.Tokens.{ofTokens, shiftOf, shortestOf, longestOf}
@@ -139,12 +139,12 @@ module _ (book image : List ℕ) where
         omega (arith, short-upto (s .read), shift-upto (allWords ts) S (accepted-setting book ts (s .read) .positive) (r .node) (r .closing)),
       )
 
-      -- How deep it goes, and what it matches.
+      -- How deep it goes: it matches as many bytes.
       pub depths : (r .depth ≤ b) × (r .depth ≤ maxBody)
       depths = (turn .inside, omega (arith, turn .short, accepted-longest book ts (s .read)))
 
-      pub matched : r .node ≡ take (r .depth) (drop (b - r .depth) image)
-      matched = turn .bytes
+      pub matches : r .depth ≡ length (r .node)
+      matches = turn .deep
 
       pub turns : (after : Standing) → after .boundary ≡ b + by
           → inUse (after .spans) ≡ renewed (b - r .depth) b (b + by) (inUse (at .spans)) → after .spans .used ≤ 5

@@ -13,18 +13,14 @@ use Rattle.rules.specs.Rules.{Tree}
 use Rattle.rules.specs.Tokens.{ofTokens, ends}
 use Rattle.book.specs.Laws.Accepted.{Fit}
 use Rattle.tables.specs.Tables.{Tables}
-use Rattle.tables.specs.Walks.{along, childBy, ending}
-use Rattle.trie.specs.Answers.{tables}
+use Rattle.tables.specs.Walks.{childBy, ending}
+use Rattle.trie.specs.Answers.{treeOnly}
+use Rattle.trie.specs.Laws.Chain.{along-alike}
 use Rattle.tables.specs.Laws.Nodes.{Stand}
 use Rattle.tables.specs.Laws.Represents.{Represents}
 use Rattle.image.specs.Rounds.{Reached, meeting, down, reached}
 use Rattle.image.specs.Walk.{treeIn, Walkable}
 use Rattle.image.specs.Laws.Roots.{root-grows}
-
--- A walk along a chain reads the labels and the siblings.
-along-alike : (t u : Tables) → t .label ≡ u .label → t .next ≡ u .next → (x f at : ℕ) → along t x f at ≡ along u x f at
-along-alike t u tag sib x zero at = refl
-along-alike t u tag sib x (suc f) at = cc (along-alike t u tag sib x f (getD (t .next) at 0))
 
 module _ (tokens : List (List ℕ)) (S : ℕ) (t : Tables) (count : ℕ) (rep : Represents t count tokens) where
   abbrev here : Tree ℕ
@@ -34,7 +30,7 @@ module _ (tokens : List (List ℕ)) (S : ℕ) (t : Tables) (count : ℕ) (rep : 
   there = ofTokens tokens S
 
   child-here : (v x : ℕ) → here .child v x ≡ childBy t count v x
-  child-here v x = along-alike (tables [] (t .label) (t .token) (t .first) (t .next)) t refl refl x count (getD (t .first) v 0)
+  child-here v x = along-alike (treeOnly [] (t .label) (t .token) (t .first) (t .next)) t refl refl x count (getD (t .first) v 0)
 
   child-same : (v x : ℕ) → v < count → Stand t count (here .child v x) (there .child (ending t v) x)
   child-same v x h = subst (λ o. Stand t count o (there .child (ending t v) x)) (sym (child-here v x)) (rep .child v x h)

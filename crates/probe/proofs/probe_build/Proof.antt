@@ -6,7 +6,7 @@ use Rattle.probe.proofs.probe_build.Statement.{statement}
 use Rattle.probe.proofs.probe_build.Tie as tie
 
 returns : tie.Need-returns
-returns c = rw (c .building .ensures) (ap buildingOf (c .before .before .before .before .before .before .before .before .before .before .before .build .ensures))
+returns c = rw (c .building .ensures) (ap buildingOf (c .before .before .before .before .before .before .before .before .before .before .before .before .before .build .ensures))
 
 pub probe-build-spec : {M : Type 1} → statement M
 probe-build-spec =
@@ -14,6 +14,7 @@ probe-build-spec =
     (tie.spec
     (λ c κs. search needs)
     (λ c κs. search needs)
+    (λ c. search needs)
     (λ c. search needs)
     (λ c. search needs)
     (λ c. search needs)

@@ -9,17 +9,17 @@ use Rattle.probe.proofs.probe_carry_on.Statement.{statement}
 use Rattle.probe.proofs.probe_carry_on.Tie as tie
 
 state-in-requires : tie.Need-state-in-requires
-state-in-requires c κs = room (c .before .before .before .before .before .before .before .before .before .before .args .state .now) (c .before .before .is-state .ensures) (c .before .if1 .taken)
+state-in-requires c κs = room (c .before .before .before .before .before .before .before .before .before .before .before .args .state .now) (c .before .before .is-state .ensures) (c .before .if1 .taken)
 
 hand-back-requires : tie.Need-hand-back-requires
-hand-back-requires c κs = room (c .before .before .before .before .before .before .before .before .before .before .before .before .before .args .state .now) (c .before .before .before .before .before .is-state .ensures) (c .before .before .before .before .if1 .taken)
+hand-back-requires c κs = room (c .before .before .before .before .before .before .before .before .before .before .before .before .before .before .args .state .now) (c .before .before .before .before .before .is-state .ensures) (c .before .before .before .before .if1 .taken)
 
 returns : tie.Need-returns
 returns c =
     let d = c .before .before .before .before in
     let b = d .before .before .before .before in
-    let a = b .before .before .before .before .before .before .before .before .args in
-    let t = tables (a .parent .now) (a .label .now) (a .token .now) (a .first .now) (a .next .now) in
+    let a = b .before .before .before .before .before .before .before .before .before .args in
+    let t = tables (a .parent .now) (a .label .now) (a .token .now) (a .first .now) (a .next .now) (a .shift .now) in
     steps (λ s. noneUsed (carryOn t s)) (a .state .now) (b .is-state .ensures) (d .before .before .before .if1 .taken) (d .before .state-in .ensures)
     (ap noneUsed (d .carry-on .ensures)) (c .before .before .hand-back .ensures)
 

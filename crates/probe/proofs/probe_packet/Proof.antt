@@ -7,17 +7,17 @@ use Rattle.probe.proofs.probe_packet.Statement.{statement}
 use Rattle.probe.proofs.probe_packet.Tie as tie
 
 state-in-requires : tie.Need-state-in-requires
-state-in-requires c κs = room (c .before .before .before .before .before .before .before .before .before .before .before .args .state .now) (c .before .before .is-state .ensures) (c .before .if1 .taken)
+state-in-requires c κs = room (c .before .before .before .before .before .before .before .before .before .before .before .before .args .state .now) (c .before .before .is-state .ensures) (c .before .if1 .taken)
 
 hand-back-requires : tie.Need-hand-back-requires
-hand-back-requires c κs = room (c .before .before .before .before .before .before .before .before .before .before .before .before .before .before .args .state .now) (c .before .before .before .before .before .is-state .ensures) (c .before .before .before .before .if1 .taken)
+hand-back-requires c κs = room (c .before .before .before .before .before .before .before .before .before .before .before .before .before .before .before .args .state .now) (c .before .before .before .before .before .is-state .ensures) (c .before .before .before .before .if1 .taken)
 
 returns : tie.Need-returns
 returns c =
     let d = c .before .before .before .before in
     let b = d .before .before .before .before in
-    let a = b .before .before .before .before .before .before .before .before .before .args in
-    let t = tables (a .parent .now) (a .label .now) (a .token .now) (a .first .now) (a .next .now) in
+    let a = b .before .before .before .before .before .before .before .before .before .before .args in
+    let t = tables (a .parent .now) (a .label .now) (a .token .now) (a .first .now) (a .next .now) (a .shift .now) in
     steps (λ s. supplyPacket t s (a .bytes .now)) (a .state .now) (b .is-state .ensures) (d .before .before .before .if1 .taken) (d .before .state-in .ensures)
     (d .supply-packet .ensures) (c .before .before .hand-back .ensures)
 

@@ -9,7 +9,7 @@ use Rattle.rules.specs.Laws.Tests.{and-l, and-r}
 use Rattle.rules.specs.Rules.{Stretch, kept}
 use Rattle.tables.specs.Tables.{Tables}
 use Rattle.tables.specs.Walks.{depth}
-use Rattle.trie.specs.Answers.{tables}
+use Rattle.trie.specs.Answers.{treeOnly}
 use Rattle.scan.specs.declared.Scan.{Scan}
 use Rattle.scan.specs.State.{used, countOk, imageOk, shortestOk, nodeOk, boundaryOk, suppliedOk, sparedOk, stretchOk, stretchesOk, dueOk, leftOk, inRange}
 use Rattle.scan.specs.Ways.{paths, marks}
@@ -50,7 +50,7 @@ stretch-tests t s m {a} {b} {c} ea eb ec ed ee =
 -- The tables count by their parents, token numbers and first children alone.
 pub range-tests : (t : Tables) (s : Scan) {a b c d e f g h i j : Bool}
     → countOk s ≡ a → imageOk s ≡ b → shortestOk s ≡ c → nodeOk (paths (t .parent) []) s ≡ d → boundaryOk s ≡ e → suppliedOk s ≡ f
-    → sparedOk s ≡ g → stretchesOk (paths (t .parent) []) s ≡ h → dueOk (tables [] [] [] (t .first) []) s ≡ i
+    → sparedOk s ≡ g → stretchesOk (paths (t .parent) []) s ≡ h → dueOk (treeOnly [] [] [] (t .first) []) s ≡ i
     → leftOk (marks (t .parent) (t .token)) s ≡ j → inRange t s ≡ (a && b && c && d && e && f && g && h && i && j)
 range-tests t s ea eb ec ed ee ef eg eh ei ej =
     rw (← ea, ← eb, ← ec, ← ed, ← ee, ← ef, ← eg, ← eh, ← ei, ← ej)

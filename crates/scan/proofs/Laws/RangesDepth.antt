@@ -59,7 +59,7 @@ climb-done {parent} s e = omega (arith, s .sum, ap (depth (paths parent [])) e)
 pub passing-out : {parent token first : List ℕ} {count : ℕ} → Passing parent token first count → 1 ≤ count
     → Rises parent count × (count ≤ length token) × (count ≤ length first)
 passing-out {parent} {token} {first} {count} p h =
-    let u = unbroken (tables parent (p .label) token first (p .next)) count h (p .fine) in (
+    let u = unbroken (tables parent (p .label) token first (p .next) (p .shift)) count h (p .fine) in (
       record { size = h; held = omega (arith, u .held); root = u .falling .root-up; ups = u .falling .ups },
       omega (arith, u .held),
       omega (arith, u .held),

@@ -9,7 +9,7 @@ use lib.ListN.{getD}
 use Rattle.rules.specs.Lists.{anyOf}
 use Rattle.rules.specs.Rules.{Tree, Stretch, Config, finished, goes, place, recall, endRound, look, next}
 use Rattle.tables.specs.Tables.{Tables}
-use Rattle.trie.specs.Answers.{tables}
+use Rattle.trie.specs.Answers.{treeOnly}
 use Rattle.scan.specs.declared.Scan.{Scan}
 use Rattle.scan.specs.State.{used, configOf, treeOf, wantsByte, dueOk}
 use Rattle.scan.specs.Memory.{covers}
@@ -43,18 +43,18 @@ module _ {E : Type 0} (tree : Tree E) (c : Config E) where
   wants-is n =
       told (ltb n (c .boundary)) (tree .leaf (c .node) || eqb (c .depth) (c .boundary)) _ (recall-is (place c) (c .stretches))
 
-pub due-same : (t : Tables) (s : Scan) → dueOk (tables [] [] [] (t .first) []) s ≡ dueOk t s
+pub due-same : (t : Tables) (s : Scan) → dueOk (treeOnly [] [] [] (t .first) []) s ≡ dueOk t s
 due-same t s =
-    let u = tables [] [] [] (t .first) [] in
+    let u = treeOnly [] [] [] (t .first) [] in
     cc (wants-is (treeOf u s) (configOf s) (s .image), wants-is (treeOf t s) (configOf s) (s .image))
 
 -- No byte is due.
-pub idle-passes : (first : List ℕ) (s : Scan) → not (s .due) ≡ true → dueOk (tables [] [] [] first []) s ≡ true
+pub idle-passes : (first : List ℕ) (s : Scan) → not (s .due) ≡ true → dueOk (treeOnly [] [] [] first []) s ≡ true
 idle-passes first s e = rw e
 
 -- A byte is due: the answer, from the tests.
 pub due-tests : (first : List ℕ) (s : Scan) → s .due ≡ true → {a b d r : Bool}
     → ltb (s .image) (s .boundary) ≡ a → eqb (getD first (s .node) 0) 0 ≡ b → eqb (s .depth) (s .boundary) ≡ d
     → anyOf (covers (s .boundary - 1 - s .depth)) (used (s .stretches)) ≡ r
-    → dueOk (tables [] [] [] first []) s ≡ (not a && not (b || d) && not r)
-due-tests first s due ea eb ed er = cc (wants-is (treeOf (tables [] [] [] first []) s) (configOf s) (s .image))
+    → dueOk (treeOnly [] [] [] first []) s ≡ (not a && not (b || d) && not r)
+due-tests first s due ea eb ed er = cc (wants-is (treeOf (treeOnly [] [] [] first []) s) (configOf s) (s .image))

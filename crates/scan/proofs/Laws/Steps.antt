@@ -8,14 +8,12 @@ use lib.ListN.{length, getD}
 use Rattle.rules.specs.Lists.{select}
 use Rattle.rules.specs.Rules.{kept, ended, endRound, taken, takeByte}
 use Rattle.rules.specs.Sweep.{recalls}
-use Rattle.rules.specs.Tokens.{shiftOf}
 use Rattle.rules.specs.Laws.Hits.{end-recalls}
 use Rattle.rules.specs.Laws.All.{All}
 use Rattle.rules.specs.Laws.Remember.{Lies}
-use Rattle.rules.specs.Laws.Exact.Shift.{shift-upto}
 use Rattle.tables.specs.Tables.{Tables}
-use Rattle.tables.specs.Walks.{childBy, ending, carrier, words}
-use Rattle.trie.specs.Answers.{tables, childOf}
+use Rattle.tables.specs.Walks.{childBy, depth, carrier, shiftFrom}
+use Rattle.trie.specs.Answers.{tables, treeOnly, childOf}
 use Rattle.trie.specs.declared.Child.{Child}
 use Rattle.trie.specs.declared.Child.the-variants.{At, Absent}
 use Rattle.trie.specs.Laws.Chain.{along-alike}
@@ -23,40 +21,40 @@ use Rattle.scan.specs.declared.Scan.{Scan}
 use Rattle.scan.specs.declared.Stretch.{Stretch as Slot}
 use Rattle.scan.specs.State.{configOf, treeOf, used, laid, maxSpared, maxStretches}
 use Rattle.scan.specs.Calls.{sparing, moved, owing, stepped}
-use Rattle.scan.specs.Ways.{marks, Readable, Climbs, Marked}
+use Rattle.scan.specs.Ways.{paths, marks, Readable, Climbs, Marked}
 use Rattle.scan.specs.Memory.{Ends, rememberBy}
 use Rattle.scan.specs.Steps.{Stepping, Ending}
 use Rattle.scan.specs.Laws.Slots.{slots-laid, slots-five}
-use Rattle.scan.specs.Laws.Within.{Counts}
+use Rattle.scan.specs.Laws.Within.{shift-bounds, Counts}
 use Rattle.scan.specs.Laws.Stay.{first-hit}
 use Rattle.scan.specs.Laws.Ways.{depth-alike, carrier-alike, unbroken-readable, unbroken-marked}
 use Rattle.scan.specs.Laws.Memory.{shift-by, remember-by, within-climbs, within-lies, within-ends}
 
 -- The shift that the code finds in the tables it is lent.
-abbrev pub shiftIn : List ℕ → List ℕ → List ℕ → Scan → Option ℕ → ℕ
-shiftIn parent label token s o =
-    let u = tables parent label token [] [] in
-    shiftOf (words u (s .count)) (s .shortest) (ending u (s .node)) o
+abbrev pub shiftIn : List ℕ → List ℕ → List ℕ → List ℕ → Scan → Option ℕ → ℕ
+shiftIn parent label token shift s o = shiftFrom (tables parent label token [] [] shift) (s .count) (s .shortest) (s .node) o
 
 -- A round that ends asks no more than a state in its ranges has.
-module _ {parent label token : List ℕ} {s : Scan} (e : Ending parent label token s) where
+module _ {parent label token shift : List ℕ} {s : Scan} (e : Ending parent label token shift s) where
   abbrev whole : Tables
-  whole = tables parent label token (e .first) (e .next)
+  whole = tables parent label token (e .first) (e .next) shift
 
-  pub ending-readable : Readable parent label token (s .count)
-  ending-readable = unbroken-readable whole (s .count) (e .goes .ready .tree)
+  pub ending-readable : Readable parent label token (s .count) × (s .count ≤ length shift)
+  ending-readable = (unbroken-readable whole (s .count) (e .goes .ready .tree), omega (arith, e .goes .ready .tree .held))
 
-  pub ending-numbers : (1 ≤ s .shortest) × (s .node < s .count)
-  ending-numbers = (e .goes .ready .positive, e .goes .within .node)
+  pub ending-numbers : (1 ≤ s .shortest) × (s .node < s .count) × (s .depth ≡ depth (paths parent []) (s .node))
+  ending-numbers =
+      let w = e .goes .within in
+      (e .goes .ready .positive, w .node, sym (depth-alike (paths parent []) whole refl (s .node) ∙ w .held .sized))
 
   pub ending-marked : Marked parent token (s .node)
   ending-marked = unbroken-marked whole (s .count) (s .node) (e .goes .ready .tree) (e .goes .within .node)
 
-  module _ (o : Option ℕ) (by : ℕ) (is : by ≡ shiftIn parent label token s o) where
+  module _ (o : Option ℕ) (by : ℕ) (is : by ≡ shiftIn parent label token shift s o) where
     short : by ≤ s .shortest
     short =
-        let t = whole in
-        omega (arith, is ∙ shift-by t (s .count) (s .shortest) (s .node) o, shift-upto (words t (s .count)) (s .shortest) (e .goes .ready .positive) (ending t (s .node)) o)
+        let r = e .goes .ready in
+        omega (arith, is ∙ shift-by whole (s .count) (s .shortest) (s .node) o, shift-bounds r (s .node) o (e .goes .within .node) .1)
 
     pub ending-near : s .boundary + by < 2 ^ 32
     ending-near = omega (arith, short, e .goes .within .near, e .goes .ready .image, e .goes .ready .first)
@@ -92,31 +90,31 @@ none-spared : (s : Scan) → Counts s → s ≡ sparing s 0
 none-spared s few = let e : min maxSpared (s .spared + 0) ≡ s .spared = omega arith in rw e
 
 -- The state after a round has ended: rules 4 to 6,
-stands-ended : (parent label token first next : List ℕ) (s : Scan) (o : Option ℕ) (by : ℕ) (slots : List Slot)
-    → by ≡ shiftIn parent label token s o
+stands-ended : (parent label token first next shift : List ℕ) (s : Scan) (o : Option ℕ) (by : ℕ) (slots : List Slot)
+    → by ≡ shiftIn parent label token shift s o
     → slots ≡ rememberBy parent (used (s .stretches)) (s .node) (s .depth) (s .boundary) (s .boundary + by)
-    → standing s (s .boundary + by) 0 0 slots ≡ moved s (endRound (treeOf (tables parent label token first next) s) (configOf s) o .config)
-stands-ended parent label token first next s o by slots p q =
-    let t = tables parent label token first next in
+    → standing s (s .boundary + by) 0 0 slots ≡ moved s (endRound (treeOf (tables parent label token first next shift) s) (configOf s) o .config)
+stands-ended parent label token first next shift s o by slots p q =
+    let t = tables parent label token first next shift in
     ap (standing s (s .boundary + by) 0 0) (q ∙ remember-by t (s .count) (s .shortest) (configOf s) (s .boundary + by))
     ∙ ap (λ b. standing s (s .boundary + b) 0 0 (laid maxStretches (select (kept (s .boundary + b)) (ended (treeOf t s) (configOf s)))))
     (p ∙ shift-by t (s .count) (s .shortest) (s .node) o)
 
 -- and its hits are left.
-pub ended-state : {parent label token : List ℕ} {s : Scan} → Ending parent label token s → (o : Option ℕ) (by : ℕ) (slots : List Slot) (v : ℕ)
-    → by ≡ shiftIn parent label token s o
+pub ended-state : {parent label token shift : List ℕ} {s : Scan} → Ending parent label token shift s → (o : Option ℕ) (by : ℕ) (slots : List Slot) (v : ℕ)
+    → by ≡ shiftIn parent label token shift s o
     → slots ≡ rememberBy parent (used (s .stretches)) (s .node) (s .depth) (s .boundary) (s .boundary + by)
     → v ≡ carrier (marks parent token) (s .node) → (r : Scan) → r ≡ owing (standing s (s .boundary + by) 0 0 slots) (s .boundary) v
-    → (first next : List ℕ) → let t = tables parent label token first next in r ≡ stepped t s (endRound (treeOf t s) (configOf s) o)
-ended-state {parent} {label} {token} {s} e o by slots v p q h r is first next =
-    let t = tables parent label token first next in
+    → (first next : List ℕ) → let t = tables parent label token first next shift in r ≡ stepped t s (endRound (treeOf t s) (configOf s) o)
+ended-state {parent} {label} {token} {shift} {s} e o by slots v p q h r is first next =
+    let t = tables parent label token first next shift in
     let f = e .goes .ready .tree .falling in
     let w = e .goes .within in
     let sized = depth-alike t (whole e) refl (s .node) ∙ w .held .sized in
     let hit = first-hit {t = t} (record { size = f .size; root-up = f .root-up; ups = f .ups }) (s .shortest) (configOf s) (w .node) sized o in
     let spared = none-spared s (e .goes .few) ∙ ap (λ ps. sparing s (length ps)) (sym (end-recalls (treeOf t s) (configOf s) o)) in
     let to = endRound (treeOf t s) (configOf s) o in
-    is ∙ ap (λ u. owing u (s .boundary) v) (stands-ended parent label token first next s o by slots p q)
+    is ∙ ap (λ u. owing u (s .boundary) v) (stands-ended parent label token first next shift s o by slots p q)
     ∙ ap (λ u. owing (moved u (to .config)) (s .boundary) v) spared
     ∙ ap (owing (moved (sparing s (length (recalls (to .events)))) (to .config)) (s .boundary))
     (h ∙ carrier-alike (marks parent token) t refl refl (s .node) ∙ sym hit)
@@ -138,10 +136,10 @@ down s v l end hit = record {
   hit = hit;
 }
 
-module _ (parent label token first next : List ℕ) (s : Scan) (x : ℕ) (k : Child)
-    (is : childOf k ≡ childBy (tables [] label [] first next) (s .count) (s .node) x) where
+module _ (parent label token first next shift : List ℕ) (s : Scan) (x : ℕ) (k : Child)
+    (is : childOf k ≡ childBy (treeOnly [] label [] first next) (s .count) (s .node) x) where
   abbrev lent : Tables
-  lent = tables parent label token first next
+  lent = tables parent label token first next shift
 
   -- the state that the byte leads to
   abbrev took : Scan
@@ -149,7 +147,7 @@ module _ (parent label token first next : List ℕ) (s : Scan) (x : ℕ) (k : Ch
 
   child-is : (j : Child) → k ≡ j → childBy lent (s .count) (s .node) x ≡ childOf j
   child-is j e =
-      along-alike lent (tables [] label [] first next) refl refl x (s .count) (getD first (s .node) 0) ∙ sym is ∙ ap childOf e
+      along-alike lent (treeOnly [] label [] first next) refl refl x (s .count) (getD first (s .node) 0) ∙ sym is ∙ ap childOf e
 
   -- There is no child, and the round ends.
   pub took-end : k ≡ Absent → (r : Scan) → r ≡ stepped lent s (endRound (treeOf lent s) (configOf s) (some x)) → r ≡ took

@@ -3,9 +3,9 @@ use Prim.Native.Nat.{ℕ, _-_, _≤_, _<_}
 use mathlib.Core.Path.{_≡_, ap, sym, _∙_}
 use mathlib.Core.Bool.{true, false}
 use borrow.Author.Tests.{lt-ltb, le-ltb, eq-eqb, ne-eqb}
-use lib.Dec.{eqb}
+use lib.Dec.{ltb, eqb}
 use lib.ListN.{getD}
-use Rattle.rules.specs.Rules.{place, stops, recall, look, next}
+use Rattle.rules.specs.Rules.{Tree, Config, place, stops, recall, look, next}
 use Rattle.rules.specs.Laws.Tests.{or-r}
 use Rattle.tables.specs.Tables.{Tables}
 use Rattle.scan.specs.declared.Scan.{Scan}
@@ -16,6 +16,11 @@ use Rattle.scan.specs.State.{configOf, treeOf, used}
 use Rattle.scan.specs.Memory.{recalledOf, recallBy}
 use Rattle.scan.specs.Steps.{Chosen}
 use Rattle.scan.specs.Laws.Memory.{recall-by}
+
+-- A round that goes on looks at its next place.
+goes-on : {E : Type 0} (tree : Tree E) (n : ℕ) (c : Config E) → ltb n (c .boundary) ≡ false → stops tree c ≡ false
+    → next tree n c ≡ look tree c (recall tree (c .stretches) (place c))
+goes-on tree n c i k = cc
 
 module _ (t : Tables) (s : Scan) where
   pub over-is : s .image < s .boundary → Chosen t s Finished
@@ -42,8 +47,7 @@ module _ (t : Tables) (s : Scan) where
           let c = configOf s in
           let by : recall (treeOf t s) (c .stretches) (place c) ≡ recalledOf j =
           sym (recall-by t (s .count) (s .shortest) (used (s .stretches)) (place c)) ∙ sym is ∙ ap recalledOf e in
-          let to-look : next (treeOf t s) (s .image) c ≡ look (treeOf t s) c (recall (treeOf t s) (c .stretches) (place c)) = cc (le-ltb (s .image) (s .boundary) i, n) in
-          to-look ∙ ap (look (treeOf t s) c) by
+          goes-on (treeOf t s) (s .image) c (le-ltb (s .image) (s .boundary) i) n ∙ ap (look (treeOf t s) c) by
 
       pub wants-is : k ≡ Nothing → Chosen t s (Wants (s .boundary - 1 - s .depth))
       wants-is e = looks Nothing e

@@ -1,5 +1,5 @@
 -- What the code finds in the tables it is lent is what the rules find in the whole, and a state in its ranges has what it asks.
-use Prim.Native.Nat.{ℕ, _+_, _-_, _≤_}
+use Prim.Native.Nat.{ℕ, _+_, _-_, _≤_, min, max}
 use native.Mathlib.Omega.{arith}
 use mathlib.Core.Path.{_≡_, refl, ap, _∙_}
 use mathlib.Core.Bool.{Bool, true, false}
@@ -9,27 +9,28 @@ use lib.ListN.{getD}
 use Rattle.book.specs.Book.{maxBody}
 use Rattle.rules.specs.Lists.{select}
 use Rattle.rules.specs.Rules.{Stretch, Config, leftOver, cut, kept, recall, ended}
-use Rattle.rules.specs.Tokens.{shiftOf}
+use Rattle.rules.specs.Tokens.{byteShift}
 use Rattle.rules.specs.Laws.All.{All, all-map}
 use Rattle.rules.specs.Laws.Remember.{Lies}
 use Rattle.rules.specs.Laws.Limit.Span.{Spans}
 use Rattle.tables.specs.Tables.{Tables}
-use Rattle.tables.specs.Walks.{ending, depth, lifted, words, ofTables}
+use Rattle.tables.specs.Walks.{depth, lifted, words, shiftFrom, ofTables}
 use Rattle.trie.specs.Answers.{tables}
 use Rattle.scan.specs.State.{laid, maxStretches}
 use Rattle.scan.specs.Ways.{paths, Climbs}
 use Rattle.scan.specs.Memory.{covers, recallBy, Remembers, Ends, rememberBy}
 use Rattle.scan.specs.Laws.Within.{Ready, Fits, Within}
-use Rattle.scan.specs.Laws.Ways.{lifted-alike, depth-alike, ending-alike, words-alike, unbroken-rises}
+use Rattle.scan.specs.Laws.Ways.{lifted-alike, depth-alike, words-alike, unbroken-rises}
 
 module _ (t : Tables) (count S : ℕ) where
-  -- Rule 5, over the three tables that it reads.
+  -- Rule 5, over the four tables that it reads.
   pub shift-by : (v : ℕ) (o : Option ℕ)
-      → let u = tables (t .parent) (t .label) (t .token) [] [] in shiftOf (words u count) S (ending u v) o ≡ ofTables t count S .shift v o
+      → shiftFrom (tables (t .parent) (t .label) (t .token) [] [] (t .shift)) count S v o ≡ shiftFrom t count S v o
   shift-by v o =
-      let u = tables (t .parent) (t .label) (t .token) [] [] in
-      ap (λ ws. shiftOf ws S (ending u v) o) (words-alike u t refl refl refl count)
-      ∙ ap (λ w. shiftOf (words t count) S w o) (ending-alike u t refl refl v)
+      let u = tables (t .parent) (t .label) (t .token) [] [] (t .shift) in
+      ap (λ b. min S (max (getD (t .shift) v 0) b))
+      (ap (λ ws. byteShift ws S (depth u v) o) (words-alike u t refl refl refl count)
+      ∙ ap (λ d. byteShift (words t count) S d o) (depth-alike u t refl v))
 
   -- Rule 2, over the two that it reads.
   pub recall-by : (ms : List (Stretch ℕ)) (at : ℕ) → recallBy (t .parent) (t .label) ms at ≡ recall (ofTables t count S) ms at

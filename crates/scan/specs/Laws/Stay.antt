@@ -14,16 +14,14 @@ use Rattle.rules.specs.Laws.All.{All, all-append, all-select}
 use Rattle.rules.specs.Laws.Limit.{ended-laid}
 use Rattle.rules.specs.Laws.Limit.Span.{cut-ge, kept-spans, kept-upto}
 use Rattle.rules.specs.Laws.Limit.Ends.{stepsLeft, less-end, less-deeper}
-use Rattle.rules.specs.Laws.Exact.Shift.{shift-ge}
 use Rattle.tables.specs.Tables.{Tables}
-use Rattle.tables.specs.Walks.{childBy, ending, depth, carrier, words, ofTables}
-use Rattle.rules.specs.Laws.Exact.Shift.{shift-upto}
+use Rattle.tables.specs.Walks.{childBy, depth, carrier, ofTables}
 use Rattle.tables.specs.Laws.Shape.{up, Falling}
 use Rattle.tables.specs.Laws.WordAdded.{num}
 use Rattle.tables.specs.Laws.Hits.{hits-climb, Carries, carrier-carries}
 use Rattle.scan.specs.Calls.{found, firstHit}
 use Rattle.scan.specs.Laws.Bill.{plan, says}
-use Rattle.scan.specs.Laws.Within.{Ready, Fits, Within, Pending}
+use Rattle.scan.specs.Laws.Within.{Ready, shift-bounds, Fits, Within, Pending}
 
 -- What a step from c leaves to be answered: the hits at its boundary from the node of its first hit up.
 pub record Leaves (t : Tables) (count n S : ℕ) (c : Config ℕ) (w : Step ℕ) : Type 0 where
@@ -111,7 +109,8 @@ module _ {t : Tables} {count n S : ℕ} (ready : Ready t count n S) (c : Config 
   end-within i o =
       let tree = ofTables t count S in
       let b = c .boundary + tree .shift (c .node) o in
-      let moves : c .boundary < b = omega (arith, shift-ge (words t count) S (ending t (c .node)) o) in
+      let by = shift-bounds ready (c .node) o (w .node) in
+      let moves : c .boundary < b = omega (arith, by .0) in
       let laid = ended-laid tree (depth t) maxBody c (w .held) in
       record {
         within = record {
@@ -122,7 +121,7 @@ module _ {t : Tables} {count n S : ℕ} (ready : Ready t count n S) (c : Config 
             inside = omega arith;
             spans = kept-spans maxBody (c .boundary) b 0 (ended tree c) moves laid;
           };
-          near = omega (arith, shift-upto (words t count) S (ready .positive) (ending t (c .node)) o, ready .first);
+          near = omega (arith, by .1, ready .first);
           fits = all-select (Fits t count) (kept b) (ended tree c) ended-fits;
           upto = kept-upto maxBody (c .boundary) n 0 (kept b) (ended tree c) i laid;
         };
@@ -135,7 +134,7 @@ module _ {t : Tables} {count n S : ℕ} (ready : Ready t count n S) (c : Config 
             deep = omega (arith, nearest-hits .deep, w .held .sized, w .held .inside);
             inside = i;
             before = moves;
-            near = omega (arith, shift-upto (words t count) S (ready .positive) (ending t (c .node)) o);
+            near = omega (arith, by .1);
             root = refl;
             upto = kept-upto maxBody (c .boundary) (c .boundary) 0 (kept b) (ended tree c) (omega arith) laid;
           });

@@ -10,7 +10,7 @@ use lib.ListN.{length, length-drop}
 use Rattle.book.specs.Book.{maxBody, maxBodies, maxImage}
 use Rattle.rules.specs.Rules.{Stretch, Config, Step, Next, finished, wants, goes, fresh, takeByte, next}
 use Rattle.rules.specs.Words.{allWords}
-use Rattle.rules.specs.Tokens.{grown, ofTokens}
+use Rattle.rules.specs.Tokens.{grown, shortestOf, ofTokens}
 use Rattle.rules.specs.Laws.Setting.{Setting}
 use Rattle.rules.specs.Laws.Limit.{Fine, FineStep, FineNext, next-fine, fresh-fine}
 use Rattle.rules.specs.Laws.Limit.Ends.{stepsLeft, Finite}
@@ -27,9 +27,9 @@ use Rattle.scan.specs.Laws.Within.{Ready, Within, Left}
 use Rattle.scan.specs.Laws.Stay.{Leaves, WithinStep, WithinNext, next-within}
 
 -- The tables' tree and the tokens' are alike.
-tables-alike : (tokens : List (List ℕ)) (S D : ℕ) → Setting tokens S D → (t : Tables) (count : ℕ) → Represents t count tokens
+tables-alike : (tokens : List (List ℕ)) (S D : ℕ) → Setting tokens S D → S ≡ shortestOf tokens → (t : Tables) (count : ℕ) → Represents t count tokens
     → Alike (ofTables t count S) (ofTokens tokens S) (ending t) (λ v. v < count) length
-tables-alike tokens S D setting t count rep = record {
+tables-alike tokens S D setting shortest t count rep = record {
   root-in = rep .some-node;
   root = rep .root;
   bare = refl;
@@ -41,7 +41,7 @@ tables-alike tokens S D setting t count rep = record {
   ancestor-in = λ v k h i. rep .ancestor S v k h i .0;
   ancestor = λ v k h i. rep .ancestor S v k h i .1;
   lifted = λ u k i. rw length-drop (omega arith);
-  shift = λ v o h. rep .shift S (ending t v) o;
+  shift = λ v o h. rw shortest (rep .shift v o h);
 }
   where
     both : (o : Option ℕ) (q : Option (List ℕ)) → Stand t count o q → Both (ending t) (λ v. v < count) o q
@@ -53,6 +53,7 @@ tables-alike tokens S D setting t count rep = record {
 -- What is given: the tokens of a book, tables that represent them, and an image's length.
 pub record Given (tokens : List (List ℕ)) (S D : ℕ) (t : Tables) (count n : ℕ) : Type 0 where
   pub setting : Setting tokens S D
+  pub shortest : S ≡ shortestOf tokens
   pub long : 1 ≤ D
   pub short : D ≤ maxBody
   pub first : S ≤ maxBody
@@ -62,7 +63,7 @@ pub record Given (tokens : List (List ℕ)) (S D : ℕ) (t : Tables) (count n : 
 
 module _ {tokens : List (List ℕ)} {S D : ℕ} {t : Tables} {count n : ℕ} (given : Given tokens S D t count n) where
   pub alike : Alike (ofTables t count S) (ofTokens tokens S) (ending t) (λ v. v < count) length
-  alike = tables-alike tokens S D (given .setting) t count (given .represents)
+  alike = tables-alike tokens S D (given .setting) (given .shortest) t count (given .represents)
 
   pub finite : Finite (ofTokens tokens S) length D
   finite = tokens-finite tokens S D (given .setting)

@@ -4,7 +4,7 @@ use native.Mathlib.Omega.{arith}
 use mathlib.Core.Path.{_≡_, refl, ap, sym, subst, _∙_}
 use mathlib.Core.Bool.{Bool, true, false, _&&_, not}
 use mathlib.Core.List.{List, [], _∷_}
-use mathlib.Core.Option.{none}
+use mathlib.Core.Option.{Option, none}
 use borrow.Author.Tests.{lt-ltb, le-leb, eq-eqb, ne-eqb, ltb-true, leb-true, eqb-true, eqb-false, not-true}
 use lib.Dec.{leb, ltb, eqb}
 use lib.ListN.{length, getD}
@@ -15,7 +15,7 @@ use Rattle.rules.specs.Laws.Limit.{Held}
 use Rattle.rules.specs.Laws.Limit.Span.{four-few, Spans, Upto, short}
 use Rattle.book.specs.Book.{maxBody, maxImage}
 use Rattle.tables.specs.Tables.{Tables}
-use Rattle.tables.specs.Walks.{depth}
+use Rattle.tables.specs.Walks.{depth, shiftFrom}
 use Rattle.tables.specs.Broken.{broken}
 use Rattle.tables.specs.Laws.Unbroken.{Unbroken, unbroken}
 use Rattle.scan.specs.declared.Scan.{Scan}
@@ -30,6 +30,11 @@ pub record Ready (t : Tables) (count n S : ℕ) : Type 0 where
   pub image : n ≤ maxImage
   pub positive : 1 ≤ S
   pub first : S ≤ maxShortest
+
+-- Whatever the entries, a shift is 1 to S.
+pub shift-bounds : {t : Tables} {count n S : ℕ} → Ready t count n S → (v : ℕ) (o : Option ℕ) → v < count
+    → (1 ≤ shiftFrom t count S v o) × (shiftFrom t count S v o ≤ S)
+shift-bounds r v o h = omega (arith, r .positive, r .tree .shifts v h)
 
 -- The two counts have not passed where they stop.
 abbrev pub Counts : Scan → Type 0

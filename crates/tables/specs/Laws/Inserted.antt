@@ -1,5 +1,5 @@
 -- How tables grow by one word: its bytes from the last leftwards, a new node behind its parent's other children for each byte
--- that has none yet.
+-- that has none yet. Shifts come when all words are in.
 use Prim.Native.Nat.{ℕ, zero, suc, _+_}
 use mathlib.Core.Bool.{true, false}
 use mathlib.Core.List.{List, [], _∷_, _++_, reverse}
@@ -33,6 +33,7 @@ withChild t v x =
         token = t .token ++ (0 ∷ []);
         first = first ++ (0 ∷ []);
         next = next ++ (0 ∷ []);
+        shift = t .shift;
       };
       node = new;
     }
@@ -51,7 +52,7 @@ abbrev pub withWord : Tables → ℕ → List ℕ → Tables
 withWord t i word =
     let g = inserted t 0 (reverse word) in
     let u = g .tables in
-    record { parent = u .parent; label = u .label; token = set (u .token) (g .node) i; first = u .first; next = u .next }
+    record { parent = u .parent; label = u .label; token = set (u .token) (g .node) i; first = u .first; next = u .next; shift = u .shift }
 
 -- Words, each with the number that it is given, and the words of one token.
 abbrev pub insertedWords : Tables → (List ℕ → ℕ) → List (List ℕ) → Tables
@@ -61,8 +62,12 @@ insertedWords t number (w ∷ ws) = insertedWords (withWord t (number w) w) numb
 abbrev pub withWords : Tables → ℕ → List (List ℕ) → Tables
 withWords t i words = insertedWords t (λ _. i) words
 
+-- tables without shifts
+abbrev pub unshifted : Tables → Tables
+unshifted t = record { parent = t .parent; label = t .label; token = t .token; first = t .first; next = t .next; shift = [] }
+
 abbrev pub rootOnly : Tables
-rootOnly = record { parent = 0 ∷ []; label = 0 ∷ []; token = 0 ∷ []; first = 0 ∷ []; next = 0 ∷ [] }
+rootOnly = record { parent = 0 ∷ []; label = 0 ∷ []; token = 0 ∷ []; first = 0 ∷ []; next = 0 ∷ []; shift = [] }
 
 -- Tokens from number i on, the words of each with its number.
 abbrev pub builtFrom : Tables → ℕ → List (List ℕ) → Tables

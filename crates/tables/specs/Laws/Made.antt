@@ -17,6 +17,7 @@ written-lent u t = record {
   tokens = (drop (length (u .token)) (t .token), refl);
   firsts = (drop (length (u .first)) (t .first), refl);
   nexts = (drop (length (u .next)) (t .next), refl);
+  shifts = (drop (length (u .shift)) (t .shift), refl);
 }
 
 -- The answer to a reading.

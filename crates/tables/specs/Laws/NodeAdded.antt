@@ -79,13 +79,14 @@ module _ (t t′ : Tables) (n v x : ℕ) (s : Shape t n) (g : Grows t t′ n v x
         (λ y. cc));
   }
 
--- all five lists have n entries
+-- all lists have n entries but that of shifts, which has none yet
 pub record Sized (t : Tables) (n : ℕ) : Type 0 where
   pub parents : length (t .parent) ≡ n
   pub labels : length (t .label) ≡ n
   pub tokens : length (t .token) ≡ n
   pub firsts : length (t .first) ≡ n
   pub nexts : length (t .next) ≡ n
+  pub shifts : t .shift ≡ []
 
 snoc-length : (l : List ℕ) (n x : ℕ) → length l ≡ n → length (l ++ (x ∷ [])) ≡ suc n
 snoc-length l n x h = length-append l (x ∷ []) ∙ (omega arith)
@@ -124,6 +125,7 @@ module _ (t : Tables) (n v x : ℕ) (z : Sized t n) (s : Shape t n) (v< : v < n)
         (λ _. snoc-length firsts′ n 0 firsts-length) (λ _. snoc-length (t .first) n 0 (z .firsts));
     nexts = decide (λ l. length (l ++ (0 ∷ [])) ≡ suc n) (eqb (head t v) 0) _ _
         (λ _. snoc-length (t .next) n 0 (z .nexts)) (λ _. snoc-length nexts′ n 0 nexts-length);
+    shifts = z .shifts;
   }
 
   -- where the chain has an end already, each other node of it has a next one

@@ -10,7 +10,7 @@ use lib.Dec.{eqb, ltb}
 use lib.ListN.{length, getD, take, drop, length-append}
 use lib.Seq.{append-snoc}
 use Rattle.rules.specs.Lists.{anyOf, least}
-use Rattle.rules.specs.Tokens.{fits, ends, grown, shiftOf}
+use Rattle.rules.specs.Tokens.{fits, ends, grown, byteShift}
 use Rattle.rules.specs.Laws.Tests.{clash, same-test, not-test, and-l, and-r, or-r, below-suc, split, anyOf-in, anyOf-out, least-same}
 use Rattle.rules.specs.Laws.Endings.{ends→front, front→ends, ends-shorter}
 use Rattle.tables.specs.Tables.{Tables}
@@ -57,14 +57,9 @@ module _ (t : Tables) where
   words-out p zero e = absurd (clash _ e refl)
   words-out p (suc n) e = word-out p n (num t n) (p (ending t n)) (words t n) refl refl (words-out p n) e
 
-pub shift-same : (a b : List (List ℕ)) → ((p : List ℕ → Bool) → anyOf p a ≡ anyOf p b) → (S : ℕ) (u : List ℕ) (c : Option ℕ) → shiftOf a S u c ≡ shiftOf b S u c
-shift-same a b f S u none =
-    cc (least-same (λ s. anyOf (λ t. fits u t s) a) _ (λ s. f _) 1 (S - 1))
-shift-same a b f S u (some x) =
-    cc (
-      least-same (λ s. anyOf (λ t. fits u t s) a) _ (λ s. f _) 1 (S - 1),
-      least-same (λ s. anyOf (λ t. fits (x ∷ []) t (length u + s)) a) _ (λ s. f _) 1 (S - 1),
-    )
+pub shift-same : (a b : List (List ℕ)) → ((p : List ℕ → Bool) → anyOf p a ≡ anyOf p b) → (S d : ℕ) (c : Option ℕ) → byteShift a S d c ≡ byteShift b S d c
+shift-same a b f S d none = refl
+shift-same a b f S d (some x) = least-same (λ s. anyOf (λ t. fits (x ∷ []) t (d + s)) a) _ (λ s. f _) 1 (S - 1)
 
 module _ (ws : List (List ℕ)) (number : List ℕ → ℕ) (t : Tables) (n : ℕ) (fs : Facts ws number (length ws) t n) where
   s : Shape t n

@@ -1,5 +1,5 @@
--- The tables made by inserting the words are the built ones: their nodes are listed alike (`Listed`), so each entry is what
--- `built` says of that list.
+-- The tables made by inserting the words are the built ones but for their shifts: their nodes are listed alike (`Listed`), so each entry is
+-- what `built` says of that list.
 use Prim.Native.Nat.{ℕ, zero, suc, _+_, _-_, _<_}
 use native.Mathlib.Omega.{arith}
 use mathlib.Core.Path.{_≡_, refl, sym, _∙_}
@@ -13,7 +13,7 @@ use Rattle.rules.specs.Laws.Endings.{same-refl, same→eq}
 use Rattle.book.specs.Laws.Accepted.{Fit}
 use Rattle.tables.specs.Tables.{Tables, nodes, labelOf, above, isChild, childFrom, siblingFrom, siblings, built}
 use Rattle.tables.specs.Walks.{ending}
-use Rattle.tables.specs.Laws.Inserted.{insertedWords, rootOnly, insertedAll}
+use Rattle.tables.specs.Laws.Inserted.{insertedWords, unshifted, rootOnly, insertedAll}
 use Rattle.tables.specs.Laws.Shape.{alike, up, tag, head, sib, Link, Shape, ending-step, ending-apart}
 use Rattle.tables.specs.Laws.Order.{Listed}
 use Rattle.tables.specs.Laws.WordsAdded.{built-facts}
@@ -31,12 +31,12 @@ number-at u i (t ∷ ts) (suc j) h e d =
       number-at u (i + 1) ts j (omega arith) e (λ k h q. d (suc k) (omega arith) q),
     )
 
-map-at : (f : List ℕ → ℕ) (us : List (List ℕ)) (v : ℕ) → v < length us → getD (map f us) v 0 ≡ f (getD us v [])
+pub map-at : (f : List ℕ → ℕ) (us : List (List ℕ)) (v : ℕ) → v < length us → getD (map f us) v 0 ≡ f (getD us v [])
 map-at f [] v h = absurd (omega arith)
 map-at f (u ∷ us) zero h = refl
 map-at f (u ∷ us) (suc v) h = map-at f us v (omega arith)
 
-siblings-length : (i : ℕ) (us : List (List ℕ)) → length (siblings i us) ≡ length us
+pub siblings-length : (i : ℕ) (us : List (List ℕ)) → length (siblings i us) ≡ length us
 siblings-length i [] = refl
 siblings-length i (u ∷ us) = cc (siblings-length (i + 1) us)
 
@@ -48,7 +48,7 @@ siblings-at i (u ∷ us) (suc v) h = let e : i + suc v ≡ i + 1 + v = omega ari
 
 module _ (t : Tables) (n : ℕ) (s : Shape t n) (us : List (List ℕ)) (l : Listed t n us) where
   -- a list that says f of each node
-  mapped : (f : List ℕ → ℕ) (m : List ℕ) → length m ≡ n → ((v : ℕ) → v < n → getD m v 0 ≡ f (ending t v)) → m ≡ map f us
+  pub mapped : (f : List ℕ → ℕ) (m : List ℕ) → length m ≡ n → ((v : ℕ) → v < n → getD m v 0 ≡ f (ending t v)) → m ≡ map f us
   mapped f m h e = ext-getD 0 m (map f us) (h ∙ sym (l .size) ∙ sym (length-map us f)) (λ v v<.
       let k : v < n = omega arith in
       e v k ∙ sym (rw (map-at f us v (omega (arith, l .size)), l .at v k)))
@@ -103,7 +103,7 @@ module _ (t : Tables) (n : ℕ) (s : Shape t n) (us : List (List ℕ)) (l : List
       next-is v k ∙ sym (rw (siblings-at 1 us v (omega (arith, l .size)), l .at v k)))
 
 module _ (tokens : List (List ℕ)) (fit : Fit tokens) where
-  pub words-built : insertedWords rootOnly (numberOf tokens) (allWords tokens) ≡ built tokens
+  pub words-built : insertedWords rootOnly (numberOf tokens) (allWords tokens) ≡ unshifted (built tokens)
   unfolding built
   words-built =
       let words = allWords tokens in
@@ -114,12 +114,13 @@ module _ (tokens : List (List ℕ)) (fit : Fit tokens) where
       let s = b .facts .shape in
       let us = nodes words in
       let l : Listed t n us = rw take-length at (b .facts .listed) in
-      alike t (built tokens)
+      alike t (unshifted (built tokens))
       (mapped t n s us l (λ u. numberWhere (same (above u)) 0 us) (t .parent) (b .sized .parents) (parent-is t n s us l))
       (mapped t n s us l labelOf (t .label) (b .sized .labels) (label-is t n s us l))
       (mapped t n s us l number (t .token) (b .sized .tokens) (token words number t n (b .facts) (words-numbered tokens fit)))
       (mapped t n s us l (λ u. childFrom 0 u us) (t .first) (b .sized .firsts) (first-is t n s us l))
       (nexts-are t n s us l (b .sized .nexts))
+      (b .sized .shifts)
 
-  pub inserted-built : insertedAll tokens ≡ built tokens
+  pub inserted-built : insertedAll tokens ≡ unshifted (built tokens)
   inserted-built = by-words tokens fit ∙ words-built

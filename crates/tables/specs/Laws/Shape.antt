@@ -13,9 +13,10 @@ use Rattle.tables.specs.Tables.{Tables}
 use Rattle.tables.specs.Walks.{along, childBy, climb, ending, lifted}
 use Rattle.tables.specs.Laws.Inserted.{lastOf}
 
--- tables are their five lists
-pub alike : (t u : Tables) → t .parent ≡ u .parent → t .label ≡ u .label → t .token ≡ u .token → t .first ≡ u .first → t .next ≡ u .next → t ≡ u
-alike t u a b c d e = λ i. record { parent = a i; label = b i; token = c i; first = d i; next = e i }
+-- tables are their six lists
+pub alike : (t u : Tables) → t .parent ≡ u .parent → t .label ≡ u .label → t .token ≡ u .token → t .first ≡ u .first → t .next ≡ u .next
+    → t .shift ≡ u .shift → t ≡ u
+alike t u a b c d e f = λ i. record { parent = a i; label = b i; token = c i; first = d i; next = e i; shift = f i }
 
 abbrev pub up : Tables → ℕ → ℕ
 up t v = getD (t .parent) v 0

@@ -7,12 +7,12 @@ use mathlib.Core.List.{List, [], _∷_}
 use mathlib.Core.Option.{Option, some, none}
 use borrow.Author.Tests.{eqb-true, eqb-false, ne-eqb, ltb-true, ltb-false, leb-true}
 use lib.Dec.{leb, ltb, eqb}
-use lib.ListN.{length, length-drop}
+use lib.ListN.{length, getD, length-drop}
 use Rattle.book.specs.Book.{maxBody, maxTokens}
 use Rattle.rules.specs.Laws.Tests.{decide, Passed, passed, split}
 use Rattle.tables.specs.Tables.{Tables, shortestTable}
 use Rattle.tables.specs.Walks.{along, childBy, ending, depth, lifted}
-use Rattle.tables.specs.Broken.{maxNumber, linked, links, sound, firstBreak, broken, maxDepth}
+use Rattle.tables.specs.Broken.{maxNumber, maxShift, linked, links, shifts, sound, firstBreak, broken, maxDepth}
 use Rattle.tables.specs.Laws.Shape.{up, tag, head, sib, Falling, way-step, way-lifts}
 use Rattle.tables.specs.Laws.WordAdded.{num}
 
@@ -29,6 +29,8 @@ pub record Unbroken (t : Tables) (count : ℕ) : Type 0 where
   pub sibs : (v : ℕ) → v < count → 0 < sib t v → (v < sib t v) × (sib t v < count) × (up t (sib t v) ≡ up t v)
   pub child : (v x w : ℕ) → v < count → childBy t count v x ≡ some w → (w < count) × (ending t w ≡ x ∷ ending t v)
   pub grows : (v x w : ℕ) → v < count → childBy t count v x ≡ some w → depth t w ≡ suc (depth t v)
+  -- its shift
+  pub shifts : (v : ℕ) → v < count → (1 ≤ getD (t .shift) v 0) × (getD (t .shift) v 0 ≤ maxBody)
 
 module _ (t : Tables) (count : ℕ) where
   each-from : (fuel v : ℕ) → firstBreak t count fuel v ≡ none → (w : ℕ) → v ≤ w → w < v + fuel → sound t count w ≡ true
@@ -50,12 +52,15 @@ module _ (t : Tables) (count : ℕ) where
       let q = passed (ltb v at ∷ ltb at count ∷ eqb (up t at) p ∷ []) (rw (ne-eqb at 0 (λ e. omega arith), linked) at h) in
       (ltb-true v at (q 0), ltb-true at count (q 1), eqb-true (up t at) p (q 2))
 
-  -- the tests of the root, of another node, and of a node's links
+  -- the tests of the root, of another node, of a node's shift and of its links
   abbrev rootTests : List Bool
-  rootTests = eqb (up t 0) 0 ∷ eqb (tag t 0) 0 ∷ eqb (num t 0) 0 ∷ eqb (sib t 0) 0 ∷ links t count 0 ∷ []
+  rootTests = eqb (up t 0) 0 ∷ eqb (tag t 0) 0 ∷ eqb (num t 0) 0 ∷ eqb (sib t 0) 0 ∷ links t count 0 ∷ shifts t 0 ∷ []
 
   abbrev nodeTests : ℕ → List Bool
-  nodeTests v = ltb (up t v) v ∷ leb (depth t v) maxDepth ∷ leb (num t v) maxNumber ∷ links t count v ∷ []
+  nodeTests v = ltb (up t v) v ∷ leb (depth t v) maxDepth ∷ leb (num t v) maxNumber ∷ links t count v ∷ shifts t v ∷ []
+
+  abbrev shiftTests : ℕ → List Bool
+  shiftTests v = leb 1 (getD (t .shift) v 0) ∷ leb (getD (t .shift) v 0) maxShift ∷ []
 
   abbrev linkTests : ℕ → List Bool
   linkTests v = linked t count v (head t v) v ∷ linked t count v (sib t v) (up t v) ∷ []
@@ -69,6 +74,11 @@ module _ (t : Tables) (count : ℕ) where
 
     both-links : (v : ℕ) → v < count → Passed (linkTests v)
     both-links v h = passed (linkTests v) (split v 0 (λ e. rw e (root-tests 4)) (λ e. node-tests v (omega arith) h 3))
+
+    shift-out : (v : ℕ) → v < count → (1 ≤ getD (t .shift) v 0) × (getD (t .shift) v 0 ≤ maxBody)
+    shift-out v h =
+        let q = passed (shiftTests v) (split v 0 (λ e. rw e (root-tests 5)) (λ e. node-tests v (omega arith) h 4)) in
+        (leb-true 1 (getD (t .shift) v 0) (q 0), leb-true (getD (t .shift) v 0) maxShift (q 1))
 
     falls : Falling t count
     falls = record {
@@ -120,4 +130,5 @@ module _ (t : Tables) (count : ℕ) where
         sibs = sib-out size each;
         child = child-out size each;
         grows = λ v x w h e. ap length (child-out size each v x w h e .1);
+        shifts = shift-out size each;
       }

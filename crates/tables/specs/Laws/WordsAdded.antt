@@ -93,6 +93,7 @@ module _ (t : Tables) (n : ℕ) (z : Sized t n) (s : Shape t n) (i : ℕ) (word 
     tokens = length-set (g .tables .token) (g .node) i ∙ r .sized .tokens;
     firsts = r .sized .firsts;
     nexts = r .sized .nexts;
+    shifts = r .sized .shifts;
   }
 
   back : reverseAux (reverse word) [] ≡ word
@@ -193,7 +194,7 @@ root-shape = record {
 }
 
 pub root-sized : Sized rootOnly 1
-root-sized = record { parents = refl; labels = refl; tokens = refl; firsts = refl; nexts = refl }
+root-sized = record { parents = refl; labels = refl; tokens = refl; firsts = refl; nexts = refl; shifts = refl }
 
 root-facts : (words : List (List ℕ)) (number : List ℕ → ℕ) → Facts words number 0 rootOnly 1
 root-facts words number = record {

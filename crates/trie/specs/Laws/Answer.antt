@@ -4,16 +4,23 @@ use native.Mathlib.Omega.{arith}
 use mathlib.Core.Path.{_≡_, ap, sym, _∙_}
 use mathlib.Core.Bool.{true, false}
 use mathlib.Core.List.{List}
+use lib.ListN.{length}
 use borrow.Author.Tests.{lt-ltb, le-ltb}
+use Rattle.rules.specs.Lists.{over}
+use Rattle.rules.specs.Words.{allWords}
 use Rattle.rules.specs.Tokens.{bodyBytes}
 use Rattle.book.specs.Book.{Reading, accepted, refused, Totals, summary, readBook}
 use Rattle.book.specs.Laws.Accepted.{Summed}
-use Rattle.tables.specs.Tables.{Tables, shortestTable, tooShort, written, built, sizesOf, build}
+use Rattle.tables.specs.Tables.{Tables, shortestTable, tooShort, nodes, written, built, Lent, sizesOf, build}
+use Rattle.trie.specs.Answers.{tables}
 use Rattle.trie.specs.InPlace.{Room, Counted, filled}
-use Rattle.tables.specs.Laws.Made.{answerTo}
+use Rattle.trie.specs.Filling.{Shiftable}
+use Rattle.tables.specs.Laws.Inserted.{unshifted}
+use Rattle.tables.specs.Laws.Made.{written-lent, answerTo}
+use Rattle.tables.specs.Laws.Represents.{nodes-few}
 use Rattle.trie.specs.Laws.TokensInPlace.{Fillable}
 
-shortest-room : (t : Tables) (n : ℕ) → n ≤ shortestTable t → Room t n
+shortest-room : (t : Tables) (n : ℕ) → n ≤ shortestTable t → Room (unshifted t) n
 shortest-room t n h = record { parents = omega arith; labels = omega arith; tokens = omega arith; firsts = omega arith; nexts = omega arith }
 
 module _ (book : List ℕ) (t : Tables) where
@@ -43,7 +50,7 @@ module _ (book : List ℕ) (t : Tables) where
         ∙ to-short (s .tokens) (lt-ltb (shortestTable t) (1 + bodyBytes (s .tokens)) (omega (arith, bodies)))
         ∙ ap (answerTo t) (sym (s .read))
 
-    pub fillable : 1 + totals .bodies ≤ short → Fillable book t (totals .tokens)
+    pub fillable : 1 + totals .bodies ≤ short → Fillable book (unshifted t) (totals .tokens)
     fillable h = record {
       tokens = s .tokens;
       read = s .read;
@@ -51,9 +58,41 @@ module _ (book : List ℕ) (t : Tables) where
       room = shortest-room t (1 + bodyBytes (s .tokens)) (omega (arith, bodies));
     }
 
-    pub answer-made : 1 + totals .bodies ≤ short → (c : Counted) → ((ts : List (List ℕ)) → readBook book ≡ accepted ts → c ≡ filled ts t)
-        → record { answer = accepted (record { nodes = c .count; shortest = totals .shortest; longest = totals .longest }); tables = c .tables } ≡ build book t
-    unfolding filled
-    answer-made h c f =
-        rw (s .sums, f (s .tokens) (s .read))
-        (to-long (s .tokens) (le-ltb (shortestTable t) (1 + bodyBytes (s .tokens)) (omega (arith, bodies))) ∙ ap (answerTo t) (sym (s .read)))
+    -- the tree is there
+    module _ (h : 1 + totals .bodies ≤ short) (c : Counted) (f : (ts : List (List ℕ)) → readBook book ≡ accepted ts → c ≡ filled ts (unshifted t)) where
+      abbrev u : Tables
+      u = c .tables
+
+      tree : u ≡ written (unshifted (built (s .tokens))) (unshifted t)
+      unfolding filled
+      tree = ap (λ c. c .tables) (f (s .tokens) (s .read))
+
+      many : c .count ≡ length (nodes (allWords (s .tokens)))
+      unfolding filled
+      many = ap (λ c. c .count) (f (s .tokens) (s .read))
+
+      lists : (t′ : Tables) → t′ ≡ written (unshifted (built (s .tokens))) (unshifted t)
+          → Lent (tables (t′ .parent) (t′ .label) (t′ .token) (t′ .first) (t′ .next) (t .shift)) (unshifted (built (s .tokens)))
+      lists t′ e = rw e (written-lent (unshifted (built (s .tokens))) (tables (t .parent) (t .label) (t .token) (t .first) (t .next) (t .shift)))
+
+      pub shiftable : Shiftable book (u .parent) (u .label) (u .first) (u .next) (t .shift) (c .count) (totals .shortest)
+      shiftable = record {
+        given = record { tokens = s .tokens; read = s .read; short = ap (λ a. a .shortest) (s .sums) };
+        token = u .token;
+        tree = lists u tree;
+        size = many;
+        room = omega (arith, many, nodes-few (s .tokens), bodies, shortest-shift);
+      }
+        where
+          shortest-shift : short ≤ length (t .shift)
+          shortest-shift = omega arith
+
+      -- and the shifts
+      pub answer-made : (shift : List ℕ) → ((ts : List (List ℕ)) → readBook book ≡ accepted ts → shift ≡ over (built ts .shift) (t .shift))
+          → record {
+            answer = accepted (record { nodes = c .count; shortest = totals .shortest; longest = totals .longest });
+            tables = tables (u .parent) (u .label) (u .token) (u .first) (u .next) shift;
+          } ≡ build book t
+      answer-made shift g =
+          rw (s .sums, many, tree, g (s .tokens) (s .read))
+          (to-long (s .tokens) (le-ltb (shortestTable t) (1 + bodyBytes (s .tokens)) (omega (arith, bodies))) ∙ ap (answerTo t) (sym (s .read)))

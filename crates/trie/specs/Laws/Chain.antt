@@ -43,7 +43,7 @@ module _ (t : Tables) (x : ℕ) where
   abbrev walk : ℕ → ℕ → ℕ → Way
   walk = walked (t .label) (t .next) x
 
-  walked-along : (fuel last at : ℕ) → along t x fuel at ≡ foundOf (walk fuel last at)
+  pub walked-along : (fuel last at : ℕ) → along t x fuel at ≡ foundOf (walk fuel last at)
   walked-along zero last at = refl
   walked-along (suc fuel) last at =
       split at 0 (λ e. cc (eq-eqb at 0 e))

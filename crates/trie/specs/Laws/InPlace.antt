@@ -84,11 +84,11 @@ module _ (t : Tables) (n v x : ℕ) (r : Ready t n v 1) where
   w = withChild u v x .tables
 
   put : (first next : List ℕ) → over (w .first) (t .first) ≡ first → over (w .next) (t .next) ≡ next
-      → written w t ≡ tables (set (t .parent) n v) (set (t .label) n x) (set (t .token) n 0) first next
+      → written w t ≡ tables (set (t .parent) n v) (set (t .label) n x) (set (t .token) n 0) first next (t .shift)
   put first next e f =
-      alike (written w t) (tables (set (t .parent) n v) (set (t .label) n x) (set (t .token) n 0) first next)
+      alike (written w t) (tables (set (t .parent) n v) (set (t .label) n x) (set (t .token) n 0) first next (t .shift))
       (over-push n v (t .parent) (omega (arith, r .room .parents))) (over-push n x (t .label) (omega (arith, r .room .labels)))
-      (over-push n 0 (t .token) (omega (arith, r .room .tokens))) e f
+      (over-push n 0 (t .token) (omega (arith, r .room .tokens))) e f refl
 
   put-first : head u v ≡ 0 → written w t ≡ putFirst t n v x
   put-first e =

@@ -11,8 +11,8 @@ use lib.ListN.{length}
 use Rattle.rules.specs.Laws.Tests.{split, below-suc, passed}
 use Rattle.tables.specs.Tables.{Tables, shortestTable}
 use Rattle.tables.specs.Walks.{climb, depth}
-use Rattle.tables.specs.Broken.{maxDepth, maxNumber, linked, links, sound, firstBreak, broken}
-use Rattle.trie.specs.Answers.{tables, ownSound}
+use Rattle.tables.specs.Broken.{maxDepth, maxNumber, linked, links, shifts, sound, firstBreak, broken}
+use Rattle.trie.specs.Answers.{tables, treeOnly, ownSound}
 use Rattle.tables.specs.Laws.Shape.{up, tag, head, sib, Falling, way-step}
 use Rattle.tables.specs.Laws.WordAdded.{num}
 
@@ -48,17 +48,17 @@ climb-on t v at steps a s k h e =
     (q .0, omega (arith, k .climbed, q .1, depth-le t v), record { below = omega (arith, k .below, q .0); climbed = omega (arith, k .climbed, q .1) })
 
 -- parents alone say how deep a node lies
-module _ (parent label token first next : List ℕ) where
-  climb-bare : (fuel v : ℕ) → length (climb (tables parent label token first next) fuel v) ≡ length (climb (tables parent [] [] [] []) fuel v)
+module _ (parent label token first next shift : List ℕ) where
+  climb-bare : (fuel v : ℕ) → length (climb (tables parent label token first next shift) fuel v) ≡ length (climb (treeOnly parent [] [] [] []) fuel v)
   climb-bare zero v = refl
-  climb-bare (suc fuel) v = let t = tables parent [] [] [] [] in split v 0
+  climb-bare (suc fuel) v = let t = treeOnly parent [] [] [] [] in split v 0
       (λ e. cc (eq-eqb v 0 e))
       (λ e. cc (ne-eqb v 0 e, climb-bare fuel (up t v)))
 
-  pub depth-bare : (v : ℕ) → depth (tables parent label token first next) v ≡ depth (tables parent [] [] [] []) v
+  pub depth-bare : (v : ℕ) → depth (tables parent label token first next shift) v ≡ depth (treeOnly parent [] [] [] []) v
   depth-bare v = climb-bare v v
 
-  pub falling-bare : (n : ℕ) → Falling (tables parent label token first next) n → Falling (tables parent [] [] [] []) n
+  pub falling-bare : (n : ℕ) → Falling (tables parent label token first next shift) n → Falling (treeOnly parent [] [] [] []) n
   falling-bare n s = record { size = s .size; root-up = s .root-up; ups = s .ups }
 
 -- the tables but that of the labels have n entries at least
@@ -67,6 +67,7 @@ pub record Reach (t : Tables) (n : ℕ) : Type 0 where
   pub tokens : n ≤ length (t .token)
   pub firsts : n ≤ length (t .first)
   pub nexts : n ≤ length (t .next)
+  pub shifts : n ≤ length (t .shift)
 
 -- node v passes but for its own parent and depth, and the next node is its first child
 pub record Chained (t : Tables) (count v : ℕ) : Type 0 where
@@ -74,6 +75,7 @@ pub record Chained (t : Tables) (count v : ℕ) : Type 0 where
   pub back : up t (v + 1) ≡ v
   pub few : num t v ≤ maxNumber
   pub aside : linked t count v (sib t v) (up t v) ≡ true
+  pub near : shifts t v ≡ true
 
 -- such are the nodes from v up to w
 pub record Chain (t : Tables) (count v w : ℕ) : Type 0 where
@@ -90,12 +92,12 @@ chain-more t count v w c l = record {
 }
 
 -- Past the root, labels say nothing.
-module _ (parent label token first next : List ℕ) where
+module _ (parent label token first next shift : List ℕ) where
   pub break-bare : (count fuel v : ℕ) → 0 < v
-      → firstBreak (tables parent label token first next) count fuel v ≡ firstBreak (tables parent [] token first next) count fuel v
+      → firstBreak (tables parent label token first next shift) count fuel v ≡ firstBreak (tables parent [] token first next shift) count fuel v
   break-bare count zero v h = refl
   break-bare count (suc fuel) v h =
-      cc (ne-eqb v 0 (λ e. omega arith), depth-bare parent label token first next v, depth-bare parent [] token first next v, break-bare count fuel (v + 1) (omega arith))
+      cc (ne-eqb v 0 (λ e. omega arith), depth-bare parent label token first next shift v, depth-bare parent [] token first next shift v, break-bare count fuel (v + 1) (omega arith))
 
 -- the nodes from the root to before v passed, and `deep` is the depth of the last of them
 pub record Passing (t : Tables) (count v deep : ℕ) : Type 0 where
@@ -142,7 +144,7 @@ module _ (t : Tables) (count : ℕ) where
   root-passes h e = from-root ∙ passes 0 h e
 
   pub root-up : sound t count 0 ≡ true → up t 0 ≡ 0
-  root-up h = eqb-true (up t 0) 0 (passed (eqb (up t 0) 0 ∷ eqb (tag t 0) 0 ∷ eqb (num t 0) 0 ∷ eqb (sib t 0) 0 ∷ links t count 0 ∷ []) h 0)
+  root-up h = eqb-true (up t 0) 0 (passed (eqb (up t 0) 0 ∷ eqb (tag t 0) 0 ∷ eqb (num t 0) 0 ∷ eqb (sib t 0) 0 ∷ links t count 0 ∷ shifts t 0 ∷ []) h 0)
 
   pub begins : 0 < count → up t 0 ≡ 0 → Passing t count 1 0
   begins h e = record {
@@ -211,6 +213,7 @@ module _ (t : Tables) (count : ℕ) where
         lt-ltb (v + 1) count h,
         eq-eqb (up t (v + 1)) v (l .back),
         l .aside,
+        l .near,
       ) refl
 
       next-falls : Falling t (v + 1 + 1)

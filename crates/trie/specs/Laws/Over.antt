@@ -13,7 +13,7 @@ use Rattle.tables.specs.Laws.Shape.{alike, Shape}
 use Rattle.tables.specs.Laws.NodeAdded.{Sized}
 use Rattle.tables.specs.Laws.WordsAdded.{shape-agree}
 
--- the lists are as long as they were
+-- the lists but that of shifts are as long as they were
 pub record Kept (t t′ : Tables) : Type 0 where
   pub parents : length (t′ .parent) ≡ length (t .parent)
   pub labels : length (t′ .label) ≡ length (t .label)
@@ -59,6 +59,7 @@ module _ (t : Tables) (n : ℕ) (r : Room t n) where
     tokens = length-take-le n (t .token) (r .tokens);
     firsts = length-take-le n (t .first) (r .firsts);
     nexts = length-take-le n (t .next) (r .nexts);
+    shifts = refl;
   }
 
   pub cut-shape : Shape t n → Shape (cut n t) n
@@ -70,13 +71,13 @@ module _ (t : Tables) (n : ℕ) (r : Room t n) where
   pub written-cut : written (cut n t) t ≡ t
   written-cut =
       alike (written (cut n t) t) t (over-take n (t .parent) (r .parents)) (over-take n (t .label) (r .labels))
-      (over-take n (t .token) (r .tokens)) (over-take n (t .first) (r .firsts)) (over-take n (t .next) (r .nexts))
+      (over-take n (t .token) (r .tokens)) (over-take n (t .first) (r .firsts)) (over-take n (t .next) (r .nexts)) refl
 
 module _ (t u : Tables) (n : ℕ) (z : Sized u n) where
   pub cut-written : cut n (written u t) ≡ u
   cut-written =
       alike (cut n (written u t)) u (take-at (u .parent) _ n (z .parents)) (take-at (u .label) _ n (z .labels))
-      (take-at (u .token) _ n (z .tokens)) (take-at (u .first) _ n (z .firsts)) (take-at (u .next) _ n (z .nexts))
+      (take-at (u .token) _ n (z .tokens)) (take-at (u .first) _ n (z .firsts)) (take-at (u .next) _ n (z .nexts)) (sym (z .shifts))
 
   -- the tables written say of the first nodes what u says
   front : (m l : List ℕ) (v : ℕ) → length m ≡ n → v < n → getD (over m l) v 0 ≡ getD m v 0
@@ -116,3 +117,4 @@ module _ (t u : Tables) (n : ℕ) (z : Sized u n) where
       (over-over (u .token) (w .token) (t .token) (omega (arith, z .tokens, y .tokens)))
       (over-over (u .first) (w .first) (t .first) (omega (arith, z .firsts, y .firsts)))
       (over-over (u .next) (w .next) (t .next) (omega (arith, z .nexts, y .nexts)))
+      (rw (z .shifts, y .shifts))

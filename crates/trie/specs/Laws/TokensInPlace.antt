@@ -12,7 +12,7 @@ use Rattle.book.specs.Laws.Accepted.{Fit, accepted-fit}
 use Rattle.book.specs.Laws.Records.{Records, Held, accepted-records}
 use Rattle.tables.specs.Tables.{Tables, nodes, built, written}
 use Rattle.trie.specs.InPlace.{Room, Ready, placed, Counted, numbered, placedWords, filled}
-use Rattle.tables.specs.Laws.Inserted.{Grown, inserted, withWord, withWords, rootOnly, builtFrom, insertedAll}
+use Rattle.tables.specs.Laws.Inserted.{Grown, inserted, withWord, withWords, rootOnly, builtFrom, insertedAll, unshifted}
 use Rattle.tables.specs.Laws.Shape.{alike, Shape}
 use Rattle.tables.specs.Laws.NodeAdded.{Sized}
 use Rattle.tables.specs.Laws.WordAdded.{Inserted, inserts}
@@ -56,7 +56,7 @@ module _ (t₀ : Tables) (i : ℕ) where
     word-placed =
         ap (λ p. numbered p i) (placed-written t₀ u n 0 z s (s .size) (reverse w))
         ∙ ap (λ t. record { tables = t; count = length (u′ .parent) })
-        (alike _ (written u′ t₀) refl refl (over-set (g .tables .token) (t₀ .token) (g .node) i (omega (arith, r .inside, r .sized .tokens))) refl refl)
+        (alike _ (written u′ t₀) refl refl (over-set (g .tables .token) (t₀ .token) (g .node) i (omega (arith, r .inside, r .sized .tokens))) refl refl refl)
 
   worded : (ws : List (List ℕ)) (u : Tables) (n : ℕ) → Sized u n → Shape u n → Worded t₀ u n i ws
   worded [] u n z s = record {
@@ -104,12 +104,13 @@ rooted t = record {
   token = set (t .token) 0 0;
   first = set (t .first) 0 0;
   next = set (t .next) 0 0;
+  shift = t .shift;
 }
 
 root-written : (t : Tables) → Room t 1 → rooted t ≡ written rootOnly t
 root-written t r =
     alike (rooted t) (written rootOnly t) (sym (over-push 0 0 (t .parent) (r .parents))) (sym (over-push 0 0 (t .label) (r .labels)))
-    (sym (over-push 0 0 (t .token) (r .tokens))) (sym (over-push 0 0 (t .first) (r .firsts))) (sym (over-push 0 0 (t .next) (r .nexts)))
+    (sym (over-push 0 0 (t .token) (r .tokens))) (sym (over-push 0 0 (t .first) (r .firsts))) (sym (over-push 0 0 (t .next) (r .nexts))) refl
 
 module _ (book : List ℕ) (t : Tables) (many : ℕ) (f : Fillable book t many) where
   pub fill-room : Room t 1
@@ -231,7 +232,7 @@ module _ (book : List ℕ) (t₀ : Tables) (many : ℕ) (t : Tables) (n at i : �
   fill-done h t′ o r ts e =
       let q : accepted tokens ≡ accepted ts = sym (f .given .read) ∙ e in
       let z : tokens ≡ ts = cc in
-      let b : u ≡ built ts = whole (f .rest) (f .run) (f .left) ∙ inserted-built tokens fit ∙ ap built z in
+      let b : u ≡ unshifted (built ts) = whole (f .rest) (f .run) (f .left) ∙ inserted-built tokens fit ∙ ap (λ ts. unshifted (built ts)) z in
       let m : n ≡ length (nodes (allWords ts)) = sym (f .sized .parents) ∙ ap (λ t. length (t .parent)) b ∙ length-map (nodes (allWords ts)) _ in
       let w : written u t₀ ≡ written u t′
       = ap (written u) (o ∙ root-written t′ r) ∙ written-written t′ rootOnly 1 root-sized u n (f .sized) (f .shape .size) in

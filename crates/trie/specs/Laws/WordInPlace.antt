@@ -2,14 +2,33 @@
 use Prim.Native.Nat.{ℕ, suc, _+_, _-_, _≤_, _<_}
 use native.Mathlib.Omega.{arith}
 use mathlib.Core.Path.{_≡_, refl, ap, sym, _∙_}
+use mathlib.Core.Bool.{Bool, true, false}
 use mathlib.Core.List.{List, [], _∷_, reverse, reverse-append}
 use lib.ListN.{length, getD, take, length-set, length-reverse}
 use lib.Seq.{take-all, take-suc}
+use Rattle.rules.specs.Laws.Words.{reverse-at}
 use Rattle.tables.specs.Tables.{Tables}
 use Rattle.tables.specs.Laws.WordsAdded.{shape-agree}
-use Rattle.trie.specs.InPlace.{Ready, Placed, placed, numbered}
+use Rattle.trie.specs.InPlace.{Ready, Placed, placed, numbered, reversedIf}
 use Rattle.trie.specs.Laws.Over.{Kept}
 use Rattle.trie.specs.Laws.InPlace.{place-none, place-ready, place-kept, place-on}
+
+-- A word is a body's bytes in either order.
+pub either-length : (b : Bool) (body : List ℕ) → length (reversedIf b body) ≡ length body
+either-length true body = length-reverse body
+either-length false body = refl
+
+pub either-byte : (b : Bool) (body : List ℕ) (k i : ℕ) → ((j : ℕ) → getD body j 0 < k) → i < length body → getD (reversedIf b body) i 0 < k
+either-byte true body k i h l = rw (reverse-at body i l) (h (length body - 1 - i))
+either-byte false body k i h l = h i
+
+-- The last of the first `left` bytes, and those before it.
+pub last-left : (word : List ℕ) (left : ℕ) → 0 < left → left ≤ length word
+    → reverse (take left word) ≡ getD word (left - 1) 0 ∷ reverse (take (left - 1) word)
+last-left word left h l =
+    let k : left ≡ suc (left - 1) = omega arith in
+    ap (λ m. reverse (take m word)) k ∙ ap reverse (take-suc word (left - 1) 0 (omega arith))
+    ∙ reverse-append (take (left - 1) word) (getD word (left - 1) 0 ∷ [])
 
 -- The tables t′ have all bytes of the word but the first `left`; those make of them what the whole word makes of t.
 pub record Inserting (word : List ℕ) (t : Tables) (n : ℕ) (t′ : Tables) (n′ v left : ℕ) : Type 0 where
@@ -35,13 +54,8 @@ module _ (word : List ℕ) (t : Tables) (n : ℕ) where
     inserting-on h x p e q = rw q (record {
       below = omega (arith, i .below);
       ready = place-ready t′ n′ v left (i .ready) (x ∷ []) (left - 1) (omega arith);
-      run = sym (place-on t′ n′ v left (i .ready) x (reverse (take (left - 1) word))) ∙ rw (e, ← split) (i .run);
+      run = sym (place-on t′ n′ v left (i .ready) x (reverse (take (left - 1) word))) ∙ rw (e, ← last-left word left h (i .below)) (i .run);
     })
-      where
-        split : reverse (take left word) ≡ getD word (left - 1) 0 ∷ reverse (take (left - 1) word)
-        split = let k : left ≡ suc (left - 1) = omega arith in
-            ap (λ m. reverse (take m word)) k ∙ ap reverse (take-suc word (left - 1) 0 (omega (arith, i .below)))
-            ∙ reverse-append (take (left - 1) word) (getD word (left - 1) 0 ∷ [])
 
 -- The number of its token at the node of a word: there is room for others as before.
 numbered-ready : (p : Placed) (i j : ℕ) → Ready (p .tables) (p .count) (p .node) j → Ready (numbered p i .tables) (numbered p i .count) 0 j

@@ -14,26 +14,27 @@ use Rattle.view.proofs.node_of.Statement.{statement}
 use Rattle.view.proofs.node_of.Tie as tie
 
 -- a node by its entries and the body
-abbrev made : ℕ → ℕ → ℕ → ℕ → ℕ → Body → Node
-made p l k f n b = record { parent = p; label = l; token = k; first = f; next = n; place = b .place; length = b .length }
+abbrev made : ℕ → ℕ → ℕ → ℕ → ℕ → ℕ → Body → Node
+made p l k f n s b = record { parent = p; label = l; token = k; first = f; next = n; shift = s; place = b .place; length = b .length }
 
-joined : (book : List ℕ) (t : Tables) (v : ℕ) {p l k f n i : ℕ} {b : Body}
+joined : (book : List ℕ) (t : Tables) (v : ℕ) {p l k f n s i : ℕ} {b : Body}
     → p ≡ getD (t .parent) v 0 → l ≡ getD (t .label) v 0 → k ≡ getD (t .token) v 0 → f ≡ getD (t .first) v 0 → n ≡ getD (t .next) v 0
-    → i ≡ k → b ≡ bodyOf (placeIn (readBook book) i) → made p l k f n b ≡ nodeOf book t v
-joined book t v ep el ek ef en ei eb = rw (eb, ei, ep, el, ek, ef, en) refl
+    → s ≡ getD (t .shift) v 0 → i ≡ k → b ≡ bodyOf (placeIn (readBook book) i) → made p l k f n s b ≡ nodeOf book t v
+joined book t v ep el ek ef en es ei eb = rw (eb, ei, ep, el, ek, ef, en, es) refl
 
 returns : tie.Need-returns
 returns c =
-    let b = c .before .before .before .before in
-    let a = b .before .before .before .before .before .before .before .before .before .args in
-    joined (a .book .now) (tables (a .parent .now) (a .label .now) (a .token .now) (a .first .now) (a .next .now)) (a .node)
-    (c .before .before .before .entry2 .ensures) (c .before .before .label-at .ensures) (b .before .before .entry .ensures)
-    (c .before .entry3 .ensures) (c .entry4 .ensures) (b .before .wide .ensures) (b .body-of .ensures)
+    let b = c .before .before .before .before .before in
+    let a = b .before .before .before .before .before .before .before .before .before .before .args in
+    joined (a .book .now) (tables (a .parent .now) (a .label .now) (a .token .now) (a .first .now) (a .next .now) (a .shift .now)) (a .node)
+    (c .before .before .before .before .entry2 .ensures) (c .before .before .before .label-at .ensures) (b .before .before .entry .ensures)
+    (c .before .before .entry3 .ensures) (c .before .entry4 .ensures) (c .entry5 .ensures) (b .before .wide .ensures) (b .body-of .ensures)
 
 pub node-of-spec : {M : Type 1} → statement M
 node-of-spec =
     tie.close
     (tie.spec
+    (λ c κs. search needs)
     (λ c κs. search needs)
     (λ c κs. search needs)
     (λ c κs. search needs)

@@ -1,13 +1,23 @@
--- `caches::shift` meets its contract: the greater of the two shifts, or the node shift where no byte ended the round.
+-- `caches::shift` meets its contract: the greater of the two shifts, or the node's entry where no byte ended the round.
 use mathlib.Core.Path.{ap}
 use borrow.Author.Needs.{needs}
+use lib.ListN.{getD}
 use Rattle.image.specs.Rule5.{wordsIn, closingOf}
 use Rattle.image.proofs.Laws.Caches.{shift-nothing, shift-byte}
 use Rattle.image.proofs.caches.shift.Statement.{statement}
 use Rattle.image.proofs.caches.shift.Tie as tie
 
-node-shift-requires : tie.Need-node-shift-requires
-node-shift-requires c κs = search needs
+abbrev start : tie.After-wide → tie.Start
+start w = w .before .before .before .before .before
+
+mul-wide : tie.Need-mul-wide
+mul-wide c = search needs
+
+shared-slice-read-wide : tie.Need-shared-slice-read-wide
+shared-slice-read-wide c = search needs
+
+wide-requires : tie.Need-wide-requires
+wide-requires c κs = search needs
 
 enum-told : tie.Need-enum-told
 enum-told c = search needs
@@ -21,48 +31,41 @@ byte-shift-requires c κs = search needs
 greater-requires : tie.Need-greater-requires
 greater-requires c κs = search needs
 
+returns : tie.Need-returns
+returns c =
+    let w = c .before .before in
+    let s = start w in
+    let a = s .args in (
+      shift-nothing (wordsIn (a .book .now)) (a .shortest) (a .depth) (getD (a .shift .now) (a .node) 0) (w .wide .result) (w .wide .ensures) (closingOf (a .stop))
+          (s .pre .1 .0 .1) (ap closingOf (c .enum-told .given .1)),
+      s .pre .1 .1,
+    )
+
 same-length : tie.Need-same-length
 same-length c = search needs
 
-returns : tie.Need-returns
-returns c =
-    let s = c .before .before .before .before .before .before .before .before .before .before in
-    let a = s .args in
-    let n = c .before .before .before .before .node-shift in (
-      shift-nothing (wordsIn (a .book .now)) (a .shortest) (a .matched .now) (n .result) (n .ensures .0) (closingOf (a .stop))
-          (ap closingOf (c .enum-told .given .1)),
-      ((n .ensures .1 .0, s .pre .1 .1 .1), n .ensures .1 .1),
-    )
-
-same-length-2 : tie.Need-same-length-2
-same-length-2 c = search needs
-
-same-length-3 : tie.Need-same-length-3
-same-length-3 c = search needs
-
 returns-2 : tie.Need-returns-2
 returns-2 c =
-    let s = c .before .before .before .before .before .before .before .before .before .before .before .before .before .before .before .before in
-    let a = s .args in
-    let n = c .before .before .before .before .before .before .before .before .before .before .node-shift in
     let x = c .before .before .before .byte-shift in
-    let told = c .before .before .before .before .before .before .stop .given in (
-      shift-byte (wordsIn (a .book .now)) (a .shortest) (a .matched .now) (n .result) (n .ensures .0) (closingOf (a .stop))
+    let told = c .before .before .before .before .before .before .stop .given in
+    let w = c .before .before .before .before .before .before .before .before in
+    let a = start w .args in (
+      shift-byte (wordsIn (a .book .now)) (a .shortest) (a .depth) (getD (a .shift .now) (a .node) 0) (w .wide .result) (w .wide .ensures) (closingOf (a .stop))
           (told .0 .0) (ap closingOf (told .1)) (x .result) (x .ensures .0) (c .greater .result) (c .greater .ensures),
-      ((n .ensures .1 .0, x .ensures .1), n .ensures .1 .1),
+      x .ensures .1,
     )
 
 pub shift-spec : {M : Type 1} → statement M
 shift-spec =
     tie.close
     (tie.spec
-    node-shift-requires
+    mul-wide
+    shared-slice-read-wide
+    wide-requires
     enum-told
     enum-known-stop
     byte-shift-requires
     greater-requires
-    same-length
     returns
-    same-length-2
-    same-length-3
+    same-length
     returns-2)

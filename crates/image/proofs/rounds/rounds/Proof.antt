@@ -14,13 +14,13 @@ use Rattle.image.proofs.rounds.rounds.Statement.{statement}
 use Rattle.image.proofs.rounds.rounds.Tie as tie
 
 abbrev Inv-loop : tie.InvT-loop
-Inv-loop book image label token first next count kids shortest kept₀ ends₀ tokens₀ nodes₀ bytes₀ skip₀ pairs₀ b₀ spans₀ fetched₀ spared₀ hits₀ kept ends tokens nodes bytes skip pairs b spans fetched spared hits =
-    Rounding book image shortest ends₀ tokens₀ ends tokens nodes bytes skip pairs
+Inv-loop book image label token first next shift count kids shortest kept₀ ends₀ tokens₀ bytes₀ skip₀ pairs₀ b₀ spans₀ fetched₀ spared₀ hits₀ kept ends tokens bytes skip pairs b spans fetched spared hits =
+    Rounding book image shortest ends₀ tokens₀ ends tokens bytes skip pairs
     (record { boundary = b; spans = spans; fetched = fetched; spared = spared; hits = hits })
     × (length kept ≡ maxBody)
 
 abbrev μ-loop : tie.MeasureT-loop
-μ-loop book image label token first next count kids shortest kept₀ ends₀ tokens₀ nodes₀ bytes₀ skip₀ pairs₀ b₀ spans₀ fetched₀ spared₀ hits₀ kept ends tokens nodes bytes skip pairs b spans fetched spared hits =
+μ-loop book image label token first next shift count kids shortest kept₀ ends₀ tokens₀ bytes₀ skip₀ pairs₀ b₀ spans₀ fetched₀ spared₀ hits₀ kept ends tokens bytes skip pairs b spans fetched spared hits =
     length image + 1 - b
 
 -- the function's entry, from the loop; the loop, from the round
@@ -28,21 +28,21 @@ abbrev start : tie.At-loop Inv-loop μ-loop → tie.Start Inv-loop μ-loop
 start c = c .before .before .before .before .before .before .before .before .before .before .before .before .before .before .before .before
 
 abbrev turn : tie.After-attempt Inv-loop μ-loop → tie.At-loop Inv-loop μ-loop
-turn m = m .before .before .before .before .before .before .before .before .before
+turn m = m .before .before .before .before .before .before .before .before
 
 -- the round, from what is then remembered
 abbrev tried : tie.Joined1 Inv-loop μ-loop → tie.After-attempt Inv-loop μ-loop
-tried j = j .before .before .before .before .before .before .before .before .before .before .before .before .before .before .before .before
+tried j = j .before .before .before .before .before .before .before .before .before .before .before .before .before .before
 
 -- and from the count of its places in no stretch
 abbrev counted : tie.After-loose Inv-loop μ-loop → tie.After-attempt Inv-loop μ-loop
-counted c = c .before .before .before .before .before .before .before .before .before .before .before .before .before .before .before .before .before
+counted c = c .before .before .before .before .before .before .before .before .before .before .before .before .before .before .before
 
 abbrev here : tie.At-loop Inv-loop μ-loop → Standing
 here c = record { boundary = c .loop .b; spans = c .loop .spans; fetched = c .loop .fetched; spared = c .loop .spared; hits = c .loop .hits }
 
 inside : (m : tie.After-attempt Inv-loop μ-loop) → turn m .loop .b ≤ length (start (turn m) .args .image .now)
-inside m = m .before .before .before .before .before .before .before .before .loop-test .taken
+inside m = m .before .before .before .before .before .before .before .loop-test .taken
 
 numbers : (m : tie.After-attempt Inv-loop μ-loop) → let b = turn m .loop .b in
     let r = m .attempt .result in
@@ -86,8 +86,8 @@ next j = let m = tried j in
 -- What then holds there: the buffers have what was found, and the caches are right.
 abbrev Holds : tie.After-attempt Inv-loop μ-loop → Standing → Type 0
 Holds m after = let a = start (turn m) .args in
-    let l = m .attempt .last .1 .1 .1 .1 .1 .1 .1 .1 .1 .1 .1 .1 in
-    Rounding (a .book .now) (a .image .now) (a .shortest) (a .ends .now) (a .tokens .now) (l .0) (l .1 .0) (l .1 .1 .0) (l .1 .1 .1 .0) (l .1 .1 .1 .1 .0) (l .1 .1 .1 .1 .1 .0) after
+    let l = m .attempt .last .1 .1 .1 .1 .1 .1 .1 .1 .1 .1 .1 .1 .1 in
+    Rounding (a .book .now) (a .image .now) (a .shortest) (a .ends .now) (a .tokens .now) (l .0) (l .1 .0) (l .1 .1 .0) (l .1 .1 .1 .0) (l .1 .1 .1 .1 .0) after
 
 holds : (m : tie.After-attempt Inv-loop μ-loop) (after : Standing) → after .hits ≡ m .attempt .result .hits
     → Turned (start (turn m) .args .book .now) (start (turn m) .args .image .now) (here (turn m)) after (after .hits) → Holds m after
@@ -107,22 +107,22 @@ loop-holds c = let s = c .before .before .before .before .before .before .before
     (rounding-begins (s .args .ends .now) (s .args .tokens .now) (s .pre .0) (s .pre .1 .1 .1) refl e (refl, refl, refl), s .pre .1 .1 .0)
 
 attempt-requires : tie.Need-attempt-requires Inv-loop μ-loop
-attempt-requires c κs = let l = c .before .before .before .before .before .before .before .before in
+attempt-requires c κs = let l = c .before .before .before .before .before .before .before in
     let p = start l .pre in
     let i = l .loop .inv in
-    (p .0, (rounding-begun (i .0) (c .before .before .before .before .before .before .before .loop-test .taken), (p .1 .0, (i .1, i .0 .caches))))
+    (p .0, (rounding-begun (i .0) (c .before .before .before .before .before .before .loop-test .taken), (p .1 .0, (i .1, i .0 .caches))))
 
 forgets-requires : tie.Need-forgets-requires Inv-loop μ-loop
-forgets-requires c κs = numbers (c .before .before .before .before .before .before .before .before .before .before .before .before .before .before) .3
+forgets-requires c κs = numbers (c .before .before .before .before .before .before .before .before .before .before .before .before) .3
 
 sub-fetched : tie.Need-sub-fetched Inv-loop μ-loop
-sub-fetched c = omega (arith, numbers (c .before .before .before .before .before .before .before .before .before .before .before .before .before .before .before .before .before))
+sub-fetched c = omega (arith, numbers (c .before .before .before .before .before .before .before .before .before .before .before .before .before .before .before))
 
 add-fetched : tie.Need-add-fetched Inv-loop μ-loop
-add-fetched c = omega (arith, numbers (c .before .before .before .before .before .before .before .before .before .before .before .before .before .before .before .before .before))
+add-fetched c = omega (arith, numbers (c .before .before .before .before .before .before .before .before .before .before .before .before .before .before .before))
 
 loose-requires : tie.Need-loose-requires Inv-loop μ-loop
-loose-requires c κs = let m = c .before .before .before .before .before .before .before .before .before .before .before .before .before .before .before .before in
+loose-requires c κs = let m = c .before .before .before .before .before .before .before .before .before .before .before .before .before .before in
     let n = numbers m in
     (ended-fits (known (turn m .loop .inv .0)) (inside m) (start (turn m) .pre .0 .within) (m .attempt .ensures .0), (n .1, omega (arith, n)))
 
@@ -169,7 +169,7 @@ loop-less c = let m = tried (c .before .before .before .before .before .before) 
 loop-again : tie.Need-loop-again Inv-loop μ-loop
 loop-again c = let j = c .before .before .before .before .before .before in
     let t = turn (tried j) in
-    (rounding-skims (again j) (start t .pre .0) (c .before .before .ahead .ensures .leads), j .before .before .before .before .before .before .before .before .before .before .before .before .before .before .before .kept .given ∙ t .loop .inv .1)
+    (rounding-skims (again j) (start t .pre .0) (c .before .before .ahead .ensures .leads), j .before .before .before .before .before .before .before .before .before .before .before .before .before .kept .given ∙ t .loop .inv .1)
 
 same-length : tie.Need-same-length Inv-loop μ-loop
 same-length c = let t = c .before in t .loop .inv .1 ∙ sym (start t .pre .1 .1 .0)
@@ -181,16 +181,13 @@ same-length-3 : tie.Need-same-length-3 Inv-loop μ-loop
 same-length-3 c = tokens-long (c .before .loop .inv .0)
 
 same-length-4 : tie.Need-same-length-4 Inv-loop μ-loop
-same-length-4 c = let t = c .before in t .loop .inv .0 .caches .size ∙ sym (start t .pre .1 .1 .1 .size)
+same-length-4 c = let t = c .before in t .loop .inv .0 .caches .by-byte .size ∙ sym (start t .pre .1 .1 .1 .by-byte .size)
 
 same-length-5 : tie.Need-same-length-5 Inv-loop μ-loop
-same-length-5 c = let t = c .before in t .loop .inv .0 .caches .by-byte .size ∙ sym (start t .pre .1 .1 .1 .by-byte .size)
+same-length-5 c = let t = c .before in t .loop .inv .0 .caches .by-skip .size ∙ sym (start t .pre .1 .1 .1 .by-skip .size)
 
 same-length-6 : tie.Need-same-length-6 Inv-loop μ-loop
-same-length-6 c = let t = c .before in t .loop .inv .0 .caches .by-skip .size ∙ sym (start t .pre .1 .1 .1 .by-skip .size)
-
-same-length-7 : tie.Need-same-length-7 Inv-loop μ-loop
-same-length-7 c = let t = c .before in t .loop .inv .0 .caches .by-pair .size ∙ sym (start t .pre .1 .1 .1 .by-pair .size)
+same-length-6 c = let t = c .before in t .loop .inv .0 .caches .by-pair .size ∙ sym (start t .pre .1 .1 .1 .by-pair .size)
 
 returns : tie.Need-returns Inv-loop μ-loop
 returns c = rounding-done (c .before .loop .inv .0) (c .loop-test .left)
@@ -226,5 +223,4 @@ rounds-spec =
     same-length-4
     same-length-5
     same-length-6
-    same-length-7
     returns)

@@ -1,9 +1,9 @@
 -- `attempt` meets its contract: over the tables it ends and meets what a round of the tokens does, and its shift is that of where it ended.
 use Prim.Native.Nat.{_≤_}
 use native.Mathlib.Omega.{arith}
-use mathlib.Core.Path.{refl, ap, _∙_}
+use mathlib.Core.Path.{refl, ap}
 use borrow.Author.Needs.{needs}
-use Rattle.image.proofs.Laws.Turn.{Arrives, arrives-deep, arrives-named, by-near, learns, sees, ended}
+use Rattle.image.proofs.Laws.Turn.{Arrives, arrives-deep, arrives-some, by-near, learns, sees, ended}
 use Rattle.image.proofs.Laws.TurnAttempt.{begunAt, begun-known, tables-walk, round-place, round-numbers, round-arrives, round-room, round-met}
 use Rattle.image.proofs.turn.attempt.Statement.{statement}
 use Rattle.image.proofs.turn.attempt.Tie as tie
@@ -13,13 +13,13 @@ start d = d .before .before .before .before .before .before .before .before .bef
 
 -- where the round ended, from its shift; and this, from its hits
 abbrev ended-at : tie.After-shift → tie.After-descend
-ended-at h = h .before .before .before .before .before .before
+ended-at h = h .before .before .before .before
 
 abbrev shifted : tie.After-mark → tie.After-shift
-shifted m = m .before .before .before .before .before .before .before .before .before .before .before .before .before .before .before .before .before .before
+shifted m = m .before .before .before .before .before .before .before .before .before .before .before .before .before .before .before .before
 
 arrives : (d : tie.After-descend) → let a = start d .args in
-    Arrives (a .book .now) (a .image .now) (a .shortest) (begunAt (start d .pre .1 .0)) (d .descend .result)
+    Arrives (a .book .now) (a .image .now) (a .shift .now) (a .shortest) (begunAt (start d .pre .1 .0)) (d .descend .result)
 arrives d =
     let p = start d .pre in round-arrives (p .0) (begun-known (p .1 .0)) (p .1 .0 .inside) (d .descend .result) (d .descend .ensures .0)
 
@@ -28,53 +28,40 @@ descend-requires c κs = let p = c .before .before .before .before .before .befo
     let k = begun-known (p .1 .0) in
     (round-place (p .0) k (p .1 .0 .inside), (tables-walk (p .0), (p .1 .1 .0, omega (arith, p .1 .1 .1 .0, round-room (p .0) k (p .1 .0 .inside)))))
 
-sub-from : tie.Need-sub-from
-sub-from c = omega (arith, arrives-deep (arrives (c .before .before)))
-
-sub-shift : tie.Need-sub-shift
-sub-shift c = search needs
-
-part-shift-start : tie.Need-part-shift-start
-part-shift-start c = search needs
-
-part-shift-end : tie.Need-part-shift-end
-part-shift-end c = omega (arith, start (c .before .before) .pre .1 .0 .inside)
-
 shift-requires : tie.Need-shift-requires
 shift-requires c κs =
-    let d = c .before .before .before .before .before in
+    let d = c .before .before .before in
     let a = arrives d in
-    let k = start d .pre .1 .1 .1 .1 in
-    (a .read, ((omega (arith, a .below, k .size), arrives-named a), (k .by-node, k .by-byte)))
+    (a .read, ((a .held, arrives-some a), start d .pre .1 .1 .1 .1 .by-byte))
 
 near : (h : tie.After-shift) → h .shift .result ≤ 1024
 near h = by-near (arrives (ended-at h)) (h .shift .result) (h .shift .ensures .0)
 
 learn-requires : tie.Need-learn-requires
-learn-requires c κs = let h = c .before .before .before .before .before in (near h, start (ended-at h) .pre .1 .1 .1 .1 .by-skip .size)
+learn-requires c κs = let h = c .before .before .before in (near h, start (ended-at h) .pre .1 .1 .1 .1 .by-skip .size)
 
 positive : (d : tie.After-descend) → 1 ≤ start d .args .b
 positive d = begun-known (start d .pre .1 .0) .stands .positive
 
 sub-learn-pair : tie.Need-sub-learn-pair
-sub-learn-pair c = omega (arith, positive (c .before .before .before .before .before .before .before .before .before .before .before .before .before .before .before))
+sub-learn-pair c = omega (arith, positive (c .before .before .before .before .before .before .before .before .before .before .before))
 
 shared-slice-read-learn-pair : tie.Need-shared-slice-read-learn-pair
-shared-slice-read-learn-pair c = let d = c .before .before .before .before .before .before .before .before .before .before .before .before .before .before .before .before in omega (arith, positive d, start d .pre .1 .0 .inside)
+shared-slice-read-learn-pair c = let d = c .before .before .before .before .before .before .before .before .before .before .before .before in omega (arith, positive d, start d .pre .1 .0 .inside)
 
 learn-pair-requires : tie.Need-learn-pair-requires
-learn-pair-requires c κs = let h = c .before .before .before .before .before .before .before .before .before .before in (near h, start (ended-at h) .pre .1 .1 .1 .1 .by-pair .size)
+learn-pair-requires c κs = let h = c .before .before .before .before .before .before .before .before in (near h, start (ended-at h) .pre .1 .1 .1 .1 .by-pair .size)
 
 lowest-requires : tie.Need-lowest-requires
-lowest-requires c κs = arrives-deep (arrives (c .before .before .before .before .before .before .before .before .before .before .before .before .before .before .before .before .before .before .before))
+lowest-requires c κs = arrives-deep (arrives (c .before .before .before .before .before .before .before .before .before .before .before .before .before .before .before))
 
 mark-requires : tie.Need-mark-requires
-mark-requires c κs = let d = c .before .before .before .before .before .before .before .before .before .before .before .before .before .before .before .before .before .before .before .before .before .before .before in
+mark-requires c κs = let d = c .before .before .before .before .before .before .before .before .before .before .before .before .before .before .before .before .before .before .before in
     let p = start d .pre in
     let k = begun-known (p .1 .0) in
     let n = round-numbers (p .0) k (p .1 .0 .inside) in
     let deep = ap (λ r. r .depth) (d .descend .ensures .0) in
-    (n .0, n .1, omega (arith, d .descend .ensures .1 .1, deep, round-room (p .0) k (p .1 .0 .inside), p .1 .1 .1 .0, c .before .before .before .before .before .before .before .before .before .before .before .before .before .before .before .before .before .before .before .before .before .before .kept .given))
+    (n .0, n .1, omega (arith, d .descend .ensures .1 .1, deep, round-room (p .0) k (p .1 .0 .inside), p .1 .1 .1 .0, c .before .before .before .before .before .before .before .before .before .before .before .before .before .before .before .before .before .before .kept .given))
 
 same-length : tie.Need-same-length
 same-length c = search needs
@@ -94,9 +81,6 @@ same-length-5 c = search needs
 same-length-6 : tie.Need-same-length-6
 same-length-6 c = search needs
 
-same-length-7 : tie.Need-same-length-7
-same-length-7 c = search needs
-
 returns : tie.Need-returns
 returns c =
     let m = c .before .before .before .before in
@@ -112,9 +96,7 @@ returns c =
         round-met (s .pre .0) (begun-known (s .pre .1 .0)) (s .pre .1 .0 .inside) (d .descend .result) (d .descend .ensures .0)
             (d .descend .last .1 .1 .1 .1 .1 .1 .1 .1 .0) (d .descend .ensures .1 .0) (m .mark .ensures),
         record {
-          size = h .shift .ensures .1 .1 ∙ k .size;
-          by-node = h .shift .ensures .1 .0 .0;
-          by-byte = h .shift .ensures .1 .0 .1;
+          by-byte = h .shift .ensures .1;
           by-skip = m .before .before .before .before .before .before .before .before .before .before .before .before .learn .ensures (s .args .book .now) (s .args .shortest) (learns a by e) (k .by-skip);
           by-pair = m .before .before .before .before .before .before .before .learn-pair .ensures (s .args .book .now) (s .args .image .now) (sees a by e _ refl) (k .by-pair);
         },
@@ -126,10 +108,6 @@ attempt-spec =
     tie.close
     (tie.spec
     descend-requires
-    sub-from
-    sub-shift
-    part-shift-start
-    part-shift-end
     shift-requires
     learn-requires
     sub-learn-pair
@@ -143,5 +121,4 @@ attempt-spec =
     same-length-4
     same-length-5
     same-length-6
-    same-length-7
     returns)

@@ -8,7 +8,7 @@ use Rattle.scan.proofs.Scan.supply.Statement.{statement}
 use Rattle.scan.proofs.Scan.supply.Tie as tie
 
 abbrev lent : tie.Start → Tables
-lent s = let a = s .args in tables (a .parent .now) (a .label .now) (a .token .now) (a .first .now) (a .next .now)
+lent s = let a = s .args in tables (a .parent .now) (a .label .now) (a .token .now) (a .first .now) (a .next .now) (a .shift .now)
 
 judge-requires : tie.Need-judge-requires
 judge-requires c κs = search needs
@@ -21,13 +21,13 @@ enum-told c = search needs
 
 supply-due-requires : tie.Need-supply-due-requires
 supply-due-requires c κs =
-    let s = c .before .before .before .before .before .before .before .before in
+    let s = c .before .before .before .before .before .before .before .before .before in
     let k = c .before .before .judge in
     fine (lent s) (s .args .self) true (k .result) (c .enum-told .given .1) (k .ensures)
 
 returns : tie.Need-returns
 returns c =
-    let s = c .before .before .before .before .before .before .before .before .before in
+    let s = c .before .before .before .before .before .before .before .before .before .before in
     let k = c .before .before .before .judge in
     let a = c .before .answer .given in
     supply-refused (lent s) (s .args .self) (a .0 .0) (k .result) (a .1) (s .args .byte) (k .ensures)

@@ -10,14 +10,14 @@ use Rattle.scan.proofs.Scan.supply_packet.Statement.{statement}
 use Rattle.scan.proofs.Scan.supply_packet.Tie as tie
 
 abbrev lent : tie.Start → Tables
-lent s = let a = s .args in tables (a .parent .now) (a .label .now) (a .token .now) (a .first .now) (a .next .now)
+lent s = let a = s .args in tables (a .parent .now) (a .label .now) (a .token .now) (a .first .now) (a .next .now) (a .shift .now)
 
 abbrev start : tie.After-judge → tie.Start
-start c = c .before .before .before .before .before .before .before .before
+start c = c .before .before .before .before .before .before .before .before .before
 
 returns : tie.Need-returns
 returns c =
-    let s = c .before .before .before .before .before .before .before in
+    let s = c .before .before .before .before .before .before .before .before in
     packet-overlong (lent s) (s .args .self) (s .args .bytes .now) (omega arith)
 
 judge-requires : tie.Need-judge-requires

@@ -15,10 +15,10 @@ use Rattle.scan.proofs.judge.judge.Statement.{statement}
 use Rattle.scan.proofs.judge.judge.Tie as tie
 
 abbrev lent : tie.Start → Tables
-lent s = let a = s .args in tables (a .parent .now) (a .label .now) (a .token .now) (a .first .now) (a .next .now)
+lent s = let a = s .args in tables (a .parent .now) (a .label .now) (a .token .now) (a .first .now) (a .next .now) (a .shift .now)
 
 abbrev start : tie.After-first-break → tie.Start
-start c = c .before .before .before .before .before .before
+start c = c .before .before .before .before .before .before .before
 
 -- No node breaks the tables: the first test was passed,
 sound : (c : tie.After-enum-told) → let s = start (c .before .before) in broken (lent s) (s .args .scan .count) ≡ none
@@ -29,7 +29,7 @@ sound c =
 
 -- and the second has this answer.
 ranged : (c : tie.After-in-range) → let s = start (c .before .before .before) in inRange (lent s) (s .args .scan) ≡ c .in-range .result
-ranged c = let a = start (c .before .before .before) .args in sym (c .in-range .ensures (a .label .now) (a .next .now))
+ranged c = let a = start (c .before .before .before) .args in sym (c .in-range .ensures (a .label .now) (a .next .now) (a .shift .now))
 
 -- The third test, by its answer.
 last : (c : tie.After-same) (d : Bool) → not (c .same .result) ≡ d
@@ -52,7 +52,7 @@ enum-told c = search needs
 in-range-requires : tie.Need-in-range-requires
 in-range-requires c κs =
     let a = start (c .before .before) .args in
-    record { label = a .label .now; next = a .next .now; fine = sound c }
+    record { label = a .label .now; next = a .next .now; shift = a .shift .now; fine = sound c }
 
 returns : tie.Need-returns
 returns c =

@@ -16,17 +16,17 @@ use Rattle.scan.proofs.packets.feed.Statement.{statement}
 use Rattle.scan.proofs.packets.feed.Tie as tie
 
 abbrev Inv-loop : tie.InvT-loop
-Inv-loop parent label token first next bytes last₀ state₀ answer₀ used₀ last state answer used =
-    Feeding (tables parent label token first next) state₀ bytes last (record { state = state; answer = answer }) used
+Inv-loop parent label token first next shift bytes last₀ state₀ answer₀ used₀ last state answer used =
+    Feeding (tables parent label token first next shift) state₀ bytes last (record { state = state; answer = answer }) used
 
 abbrev μ-loop : tie.MeasureT-loop
-μ-loop parent label token first next bytes last₀ state₀ answer₀ used₀ last state answer used = length bytes - used
+μ-loop parent label token first next shift bytes last₀ state₀ answer₀ used₀ last state answer used = length bytes - used
 
 abbrev lent : tie.Start Inv-loop μ-loop → Tables
-lent s = let a = s .args in tables (a .parent .now) (a .label .now) (a .token .now) (a .first .now) (a .next .now)
+lent s = let a = s .args in tables (a .parent .now) (a .label .now) (a .token .now) (a .first .now) (a .next .now) (a .shift .now)
 
 abbrev start : tie.At-loop Inv-loop μ-loop → tie.Start Inv-loop μ-loop
-start l = l .before .before .before .before .before .before .before .before
+start l = l .before .before .before .before .before .before .before .before .before
 
 abbrev run : tie.After-is-below Inv-loop μ-loop → tie.At-loop Inv-loop μ-loop
 run c = c .before .before
@@ -37,17 +37,17 @@ below c = sym (c .before .is-below .ensures) ∙ c .if1 .taken
 
 sub-last : tie.Need-sub-last Inv-loop μ-loop
 sub-last c =
-    let s = c .before .before .before .before .before .before .before in
+    let s = c .before .before .before .before .before .before .before .before in
     omega (arith, due-inside (lent s) (s .args .scan) (s .pre))
 
-sub-t13 : tie.Need-sub-t13 Inv-loop μ-loop
-sub-t13 c =
-    let s = c .before .before .before .before .before .before .before in
+sub-t14 : tie.Need-sub-t14 Inv-loop μ-loop
+sub-t14 c =
+    let s = c .before .before .before .before .before .before .before .before in
     omega (arith, due-inside (lent s) (s .args .scan) (s .pre))
 
 loop-holds : tie.Need-loop-holds Inv-loop μ-loop
 loop-holds c =
-    let s = c .before .before .before .before .before .before .before in
+    let s = c .before .before .before .before .before .before .before .before in
     feeding-begins (lent s) (s .args .scan) (s .args .bytes .now) (s .pre)
 
 is-below-requires : tie.Need-is-below-requires Inv-loop μ-loop
@@ -60,7 +60,7 @@ supply-due-requires : tie.Need-supply-due-requires Inv-loop μ-loop
 supply-due-requires c κs = run (c .before .before) .loop .inv .again (below (c .before))
 
 add-used : tie.Need-add-used Inv-loop μ-loop
-add-used c = let t = c .before .before .before .before .before in omega (arith, t .loop-test .taken, start (t .before) .good .1 .1 .1 .1 .1 .1 .0)
+add-used c = let t = c .before .before .before .before .before in omega (arith, t .loop-test .taken, start (t .before) .good .1 .1 .1 .1 .1 .1 .1 .0)
 
 sub-last-2 : tie.Need-sub-last-2 Inv-loop μ-loop
 sub-last-2 c = let t = c .before .before .before in
@@ -94,7 +94,7 @@ feed-spec =
     Inv-loop
     μ-loop
     sub-last
-    sub-t13
+    sub-t14
     loop-holds
     is-below-requires
     shared-slice-read-supply-due

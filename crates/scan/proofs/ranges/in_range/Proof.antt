@@ -60,9 +60,9 @@ between-requires c κs = search needs
 
 returns : tie.Need-returns
 returns c =
-    λ label next.
+    λ label next shift.
     let a = c .before .before .before .before .before .args in
-    let t = tables (a .parent .now) label (a .token .now) (a .first .now) next in
+    let t = tables (a .parent .now) label (a .token .now) (a .first .now) next shift in
     let count = c .before .between .ensures in
     ⊎-elim (λ w. sym (range-tests t (a .scan) (sym count ∙ not-true _ (w .taken)) refl refl refl refl refl refl refl refl refl))
     (λ w. sym (range-tests t (a .scan) (sym count ∙ not-false _ (w .0 .left)) (leb-not (a .scan .image) maxImage (w .2 .taken))
@@ -77,10 +77,10 @@ lies-requires c κs = passing-out (start (c .before .before) .pre) (some-node (c
 
 returns-2 : tie.Need-returns-2
 returns-2 c =
-    λ label next.
+    λ label next shift.
     let c2 = c .before .before in
     let a = start c2 .args in
-    let t = tables (a .parent .now) label (a .token .now) (a .first .now) next in
+    let t = tables (a .parent .now) label (a .token .now) (a .first .now) next shift in
     let shortest = c .before .between2 .ensures in
     ⊎-elim (λ w. sym (range-tests t (a .scan) (two c2 .0) (two c2 .1)
     (sym shortest ∙ not-true _ (w .taken)) refl refl refl refl refl refl refl))
@@ -98,22 +98,22 @@ between-requires-3 c κs = search needs
 
 returns-3 : tie.Need-returns-3
 returns-3 c =
-    λ label next.
+    λ label next shift.
     let c4 = c .before .before .before in
     let c2 = second c4 in
     let a = start c2 .args in
-    let t = tables (a .parent .now) label (a .token .now) (a .first .now) next in
+    let t = tables (a .parent .now) label (a .token .now) (a .first .now) next shift in
     sym (range-tests t (a .scan) (two c2 .0) (two c2 .1) (four c4 .0) (four c4 .1)
     (sym (c .before .between3 .ensures) ∙ not-true _ (c .if5 .taken)) refl refl refl refl refl)
 
 returns-4 : tie.Need-returns-4
 returns-4 c =
-    λ label next.
+    λ label next shift.
     let c5 = c .before .before in
     let c4 = fourth c5 in
     let c2 = second c4 in
     let a = start c2 .args in
-    let t = tables (a .parent .now) label (a .token .now) (a .first .now) next in
+    let t = tables (a .parent .now) label (a .token .now) (a .first .now) next shift in
     ⊎-elim (λ w. sym (range-tests t (a .scan) (two c2 .0) (two c2 .1) (four c4 .0) (four c4 .1) (five c5)
     (lt-leb (a .scan .supplied) maxSupplied (w .taken)) refl refl refl refl))
     (λ w. sym (range-tests t (a .scan) (two c2 .0) (two c2 .1) (four c4 .0) (four c4 .1) (five c5)
@@ -145,13 +145,13 @@ due-ok-requires c κs =
 
 returns-5 : tie.Need-returns-5
 returns-5 c =
-    λ label next.
+    λ label next shift.
     let c7 = c .before .before in
     let c5 = fifth c7 in
     let c4 = fourth c5 in
     let c2 = second c4 in
     let a = start c2 .args in
-    let t = tables (a .parent .now) label (a .token .now) (a .first .now) next in
+    let t = tables (a .parent .now) label (a .token .now) (a .first .now) next shift in
     let stretches = c .before .stretches-ok .ensures in
     ⊎-elim (λ w. sym (range-tests t (a .scan) (two c2 .0) (two c2 .1) (four c4 .0) (four c4 .1) (five c5) (seven c7 .0) (seven c7 .1)
     (sym stretches ∙ not-true _ (w .taken)) refl refl))
@@ -171,13 +171,13 @@ left-ok-requires c κs =
 
 returns-6 : tie.Need-returns-6
 returns-6 c =
-    λ label next.
+    λ label next shift.
     let c7 = c .before .before .before .before .before in
     let c5 = fifth c7 in
     let c4 = fourth c5 in
     let c2 = second c4 in
     let a = start c2 .args in
-    let t = tables (a .parent .now) label (a .token .now) (a .first .now) next in
+    let t = tables (a .parent .now) label (a .token .now) (a .first .now) next shift in
     sym (range-tests t (a .scan) (two c2 .0) (two c2 .1) (four c4 .0) (four c4 .1) (five c5) (seven c7 .0) (seven c7 .1)
     (sym (c .before .before .before .before .stretches-ok .ensures) ∙ not-false _ (c .before .before .before .if8 .left))
     (sym (c .before .before .due-ok .ensures) ∙ not-false _ (c .before .if9 .left)) (sym (c .left-ok .ensures)))

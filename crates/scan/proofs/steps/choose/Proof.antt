@@ -14,12 +14,12 @@ use Rattle.scan.proofs.Laws.StepsChoose.{over-is, leaf-stops, full-stop
 use Rattle.scan.proofs.steps.choose.Statement.{statement}
 use Rattle.scan.proofs.steps.choose.Tie as tie
 
-abbrev lent : tie.Start → List ℕ → List ℕ → Tables
-lent s token next = let a = s .args in tables (a .parent .now) (a .label .now) token (a .first .now) next
+abbrev lent : tie.Start → List ℕ → List ℕ → List ℕ → Tables
+lent s token next shift = let a = s .args in tables (a .parent .now) (a .label .now) token (a .first .now) next shift
 
 returns : tie.Need-returns
 returns c = let s = c .before .before .before .before .before in
-    λ token next. over-is (lent s token next) (s .args .scan) (c .if1 .taken)
+    λ token next shift. over-is (lent s token next shift) (s .args .scan) (c .if1 .taken)
 
 mul-if2 : tie.Need-mul-if2
 mul-if2 c = search needs
@@ -30,8 +30,8 @@ shared-slice-read-if2 c = search needs
 returns-2 : tie.Need-returns-2
 returns-2 c = let s = c .before .before .before .before .before .before .before in
     let a = s .args .scan in
-    λ token next. ends-is (lent s token next) a (c .before .before .if1 .left)
-    (⊎-elim (λ w. leaf-stops (lent s token next) a (w .taken)) (λ w. full-stops (lent s token next) a (w .2 .taken)) (c .if2 .came))
+    λ token next shift. ends-is (lent s token next shift) a (c .before .before .if1 .left)
+    (⊎-elim (λ w. leaf-stops (lent s token next shift) a (w .taken)) (λ w. full-stops (lent s token next shift) a (w .2 .taken)) (c .if2 .came))
 
 sub-at : tie.Need-sub-at
 sub-at c = let s = c .before .before .before .before .before .before .before .before .before .before in
@@ -58,16 +58,16 @@ returns-3 : tie.Need-returns-3
 returns-3 c = let s = c .before .before .before .before .before .before .before .before .before .before .before .before .before .before .before in
     let a = s .args .scan in
     let k = c .before .before .recall in
-    λ token next. wants-is (lent s token next) a (c .before .before .before .before .before .before .before .before .before .before .if1 .left)
-    (not-stops (lent s token next) a (c .before .before .before .before .before .before .before .before .if2 .left) (c .before .before .before .before .before .before .if3 .left)) (k .result) (k .ensures) (c .enum-told .given .1)
+    λ token next shift. wants-is (lent s token next shift) a (c .before .before .before .before .before .before .before .before .before .before .if1 .left)
+    (not-stops (lent s token next shift) a (c .before .before .before .before .before .before .before .before .if2 .left) (c .before .before .before .before .before .before .if3 .left)) (k .result) (k .ensures) (c .enum-told .given .1)
 
 returns-4 : tie.Need-returns-4
 returns-4 c = let s = c .before .before .before .before .before .before .before .before .before .before .before .before .before .before .before .before in
     let a = s .args .scan in
     let k = c .before .before .before .recall in
     let x = c .before .x .given in
-    λ token next. takes-is (lent s token next) a (c .before .before .before .before .before .before .before .before .before .before .before .if1 .left)
-    (not-stops (lent s token next) a (c .before .before .before .before .before .before .before .before .before .if2 .left) (c .before .before .before .before .before .before .before .if3 .left)) (k .result) (k .ensures) (x .0 .0) (x .1)
+    λ token next shift. takes-is (lent s token next shift) a (c .before .before .before .before .before .before .before .before .before .before .before .if1 .left)
+    (not-stops (lent s token next shift) a (c .before .before .before .before .before .before .before .before .before .if2 .left) (c .before .before .before .before .before .before .before .if3 .left)) (k .result) (k .ensures) (x .0 .0) (x .1)
 
 pub choose-spec : {M : Type 1} → statement M
 choose-spec =

@@ -14,16 +14,16 @@ use Rattle.scan.proofs.steps.settle.Statement.{statement}
 use Rattle.scan.proofs.steps.settle.Tie as tie
 
 abbrev Inv-loop : tie.InvT-loop
-Inv-loop parent label token first next at₀ at = Runs (tables parent label token first next) at₀ at
+Inv-loop parent label token first next shift at₀ at = Runs (tables parent label token first next shift) at₀ at
 
 abbrev μ-loop : tie.MeasureT-loop
-μ-loop parent label token first next at₀ at = stepsLeft (at₀ .image) maxBody (at .boundary) (at .depth)
+μ-loop parent label token first next shift at₀ at = stepsLeft (at₀ .image) maxBody (at .boundary) (at .depth)
 
 abbrev lent : tie.Start Inv-loop μ-loop → Tables
-lent s = let a = s .args in tables (a .parent .now) (a .label .now) (a .token .now) (a .first .now) (a .next .now)
+lent s = let a = s .args in tables (a .parent .now) (a .label .now) (a .token .now) (a .first .now) (a .next .now) (a .shift .now)
 
 abbrev start : tie.At-loop Inv-loop μ-loop → tie.Start Inv-loop μ-loop
-start l = l .before .before .before .before .before .before
+start l = l .before .before .before .before .before .before .before
 
 -- where the run stands, with no hit left, and what was chosen there
 abbrev run : tie.Else1 Inv-loop μ-loop → tie.At-loop Inv-loop μ-loop
@@ -32,7 +32,7 @@ run c = c .before .before
 chosen : (c : tie.After-choose Inv-loop μ-loop) (m : Move) → c .choose .result ≡ m → Chosen (lent (start (run (c .before)))) (run (c .before) .loop .at) m
 chosen c m e = let l = run (c .before) in
     let a = start l .args in
-    subst (Chosen (lent (start l)) (l .loop .at)) e (c .choose .ensures (a .token .now) (a .next .now))
+    subst (Chosen (lent (start l)) (l .loop .at)) e (c .choose .ensures (a .token .now) (a .next .now) (a .shift .now))
 
 -- The run goes on after a round has ended,
 ends : (c : tie.After-end-round Inv-loop μ-loop) → let l = run (c .before .before .before .before) in
@@ -53,7 +53,7 @@ takes c = let d = c .before .before .before .before .before in
     (rw (c .before .one-more .ensures) at (c .take-byte .ensures))
 
 loop-holds : tie.Need-loop-holds Inv-loop μ-loop
-loop-holds c = begins (c .before .before .before .before .before .pre)
+loop-holds c = begins (c .before .before .before .before .before .before .pre)
 
 tell-requires : tie.Need-tell-requires Inv-loop μ-loop
 tell-requires c κs = runs-marked (c .before .before .loop .inv) (c .if1 .taken)
@@ -63,7 +63,7 @@ returns c = runs-told (c .before .before .before .loop .inv) (c .before .if1 .ta
 
 choose-requires : tie.Need-choose-requires Inv-loop μ-loop
 choose-requires c κs = let s = start (run c) in
-    record { token = s .args .token .now; next = s .args .next .now; goes = run c .loop .inv .goes }
+    record { token = s .args .token .now; next = s .args .next .now; shift = s .args .shift .now; goes = run c .loop .inv .goes }
 
 enum-told : tie.Need-enum-told Inv-loop μ-loop
 enum-told c = search needs

@@ -13,10 +13,10 @@ use Rattle.trie.proofs.breaks.first_break.Statement.{statement}
 use Rattle.trie.proofs.breaks.first_break.Tie as tie
 
 abbrev lent : tie.Start → Tables
-lent c = tables (c .args .parent .now) (c .args .label .now) (c .args .token .now) (c .args .first .now) (c .args .next .now)
+lent c = tables (c .args .parent .now) (c .args .label .now) (c .args .token .now) (c .args .first .now) (c .args .next .now) (c .args .shift .now)
 
 abbrev start : tie.After-shortest → tie.Start
-start c = c .before .before .before .before .before .before
+start c = c .before .before .before .before .before .before .before
 
 -- the tables are long enough
 whole : (c : tie.Else1) → broken (lent (start (c .before))) (start (c .before) .args .count)
@@ -48,7 +48,7 @@ returns-4 : tie.Need-returns-4
 returns-4 c = let s = start (c .before .before .before .before .before) in
     c .later-break .ensures ∙ ap tested (sym (whole (c .before .before .before .before)
     ∙ root-passes (lent s) (s .args .count) (omega (arith, c .before .before .before .if2 .left)) (root (c .before))
-    ∙ break-bare (s .args .parent .now) (s .args .label .now) (s .args .token .now) (s .args .first .now) (s .args .next .now) (s .args .count) (s .args .count - 1) 1 (omega arith)))
+    ∙ break-bare (s .args .parent .now) (s .args .label .now) (s .args .token .now) (s .args .first .now) (s .args .next .now) (s .args .shift .now) (s .args .count) (s .args .count - 1) 1 (omega arith)))
 
 pub first-break-spec : {M : Type 1} → statement M
 first-break-spec =

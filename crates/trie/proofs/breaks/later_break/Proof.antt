@@ -17,17 +17,17 @@ use Rattle.trie.proofs.breaks.later_break.Statement.{statement}
 use Rattle.trie.proofs.breaks.later_break.Tie as tie
 
 abbrev Inv-loop : tie.InvT-loop
-Inv-loop parent token first next count node₀ depth₀ node depth = Passing (tables parent [] token first next) count node depth
+Inv-loop parent token first next shift count node₀ depth₀ node depth = Passing (tables parent [] token first next shift) count node depth
 
 abbrev μ-loop : tie.MeasureT-loop
-μ-loop parent token first next count node₀ depth₀ node depth = count - node
+μ-loop parent token first next shift count node₀ depth₀ node depth = count - node
 
 -- the tables as lent, and at the loop
 abbrev lent : tie.Start Inv-loop μ-loop → Tables
-lent c = tables (c .args .parent .now) [] (c .args .token .now) (c .args .first .now) (c .args .next .now)
+lent c = tables (c .args .parent .now) [] (c .args .token .now) (c .args .first .now) (c .args .next .now) (c .args .shift .now)
 
 abbrev start : tie.At-loop Inv-loop μ-loop → tie.Start Inv-loop μ-loop
-start c = c .before .before .before .before .before
+start c = c .before .before .before .before .before .before
 
 abbrev at : tie.Else1 Inv-loop μ-loop → tie.At-loop Inv-loop μ-loop
 at c = c .before .before .before .before
@@ -39,7 +39,7 @@ low c = omega (arith, c .before .wide .ensures, c .if1 .left)
 -- the depth is that of the node
 deep : (c : tie.After-depth-at Inv-loop μ-loop) → c .depth-at .result ≡ depth (lent (start (at (c .before)))) (at (c .before) .loop .node)
 deep c = let a = start (at (c .before)) .args in
-    c .depth-at .ensures ∙ sym (depth-bare (a .parent .now) [] (a .token .now) (a .first .now) (a .next .now) (at (c .before) .loop .node))
+    c .depth-at .ensures ∙ sym (depth-bare (a .parent .now) [] (a .token .now) (a .first .now) (a .next .now) (a .shift .now) (at (c .before) .loop .node))
 
 -- the chain's first node and its end, with their depths
 stand : (c : tie.Else2 Inv-loop μ-loop) → Standing (lent (start (at (c .before .before)))) (start (at (c .before .before)) .args .count) (at (c .before .before) .loop .node) (c .before .depth-at .result)
@@ -66,16 +66,16 @@ returns c = let a = c .before .before .before .before in
     ap tested (sym (high-breaks (lent (start a)) (start a .args .count) (a .loop .node) (a .loop .depth) (a .loop .inv) (c .before .before .before .loop-test .taken) (omega (arith, c .before .wide .ensures, c .if1 .taken))))
 
 loop-holds : tie.Need-loop-holds Inv-loop μ-loop
-loop-holds c = let s = c .before .before .before .before in begins (lent s) (s .args .count) (s .pre .1) (s .pre .2)
+loop-holds c = let s = c .before .before .before .before .before in begins (lent s) (s .args .count) (s .pre .1) (s .pre .2)
 
 depth-at-requires : tie.Need-depth-at-requires Inv-loop μ-loop
 depth-at-requires c κs = let a = at c in
     let s = start a .args in (
-      falling-bare (s .parent .now) [] (s .token .now) (s .first .now) (s .next .now) (a .loop .node + 1) (falls-on (lent (start a)) (s .count) (a .loop .node) (a .loop .depth) (a .loop .inv) (c .before .before .before .loop-test .taken) (low c)),
+      falling-bare (s .parent .now) [] (s .token .now) (s .first .now) (s .next .now) (s .shift .now) (a .loop .node + 1) (falls-on (lent (start a)) (s .count) (a .loop .node) (a .loop .depth) (a .loop .inv) (c .before .before .before .loop-test .taken) (low c)),
       search needs,
       a .loop .inv .falls .size,
       c .before .wide .ensures,
-      a .loop .inv .before ∙ depth-bare (s .parent .now) [] (s .token .now) (s .first .now) (s .next .now) (a .loop .node - 1),
+      a .loop .inv .before ∙ depth-bare (s .parent .now) [] (s .token .now) (s .first .now) (s .next .now) (s .shift .now) (a .loop .node - 1),
     )
 
 returns-2 : tie.Need-returns-2 Inv-loop μ-loop

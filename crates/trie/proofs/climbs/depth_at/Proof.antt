@@ -6,13 +6,13 @@ use mathlib.Core.List.{[]}
 use borrow.Author.Needs.{needs}
 use Rattle.tables.specs.Tables.{Tables}
 use Rattle.tables.specs.Walks.{depth}
-use Rattle.trie.specs.Answers.{tables}
+use Rattle.trie.specs.Answers.{treeOnly}
 use Rattle.trie.specs.Laws.NodeByNode.{falling-below, depth-up, depth-le}
 use Rattle.trie.proofs.climbs.depth_at.Statement.{statement}
 use Rattle.trie.proofs.climbs.depth_at.Tie as tie
 
 abbrev bare : tie.Start → Tables
-bare c = tables (c .args .parent .now) [] [] [] []
+bare c = treeOnly (c .args .parent .now) [] [] [] []
 
 -- the step up to the parent
 up : (c : tie.Start) → (c .args .above < c .args .node) × (depth (bare c) (c .args .node) ≡ depth (bare c) (c .args .above) + 1)

@@ -8,7 +8,7 @@ use Rattle.rules.specs.Words.{wordsOf}
 use Rattle.rules.specs.Tokens.{total}
 use Rattle.book.specs.Book.{wholeAt}
 use Rattle.tables.specs.Tables.{Tables}
-use Rattle.trie.specs.Answers.{tables}
+use Rattle.trie.specs.Answers.{treeOnly}
 use Rattle.trie.specs.InPlace.{Room, Ready}
 use Rattle.trie.specs.Laws.Over.{Kept}
 use Rattle.trie.specs.Laws.TokensInPlace.{Fillable, Filling, rooted, fill-room, fill-kept, fill-first, fill-inside, fill-ready, fill-on, fill-done}
@@ -17,7 +17,7 @@ use Rattle.trie.proofs.fill.fill.Tie as tie
 
 abbrev Inv-loop : tie.InvT-loop
 Inv-loop book parent₀ label₀ token₀ first₀ next₀ many count₀ at₀ number₀ parent label token first next count at number =
-    Filling book (tables parent₀ label₀ token₀ first₀ next₀) many (tables parent label token first next) count at number
+    Filling book (treeOnly parent₀ label₀ token₀ first₀ next₀) many (treeOnly parent label token first next) count at number
 
 abbrev μ-loop : tie.MeasureT-loop
 μ-loop book parent₀ label₀ token₀ first₀ next₀ many count₀ at₀ number₀ parent label token first next count at number =
@@ -25,13 +25,13 @@ abbrev μ-loop : tie.MeasureT-loop
 
 -- the tables as lent, and at the loop
 abbrev lent : tie.Start Inv-loop μ-loop → Tables
-lent c = tables (c .args .parent .now) (c .args .label .now) (c .args .token .now) (c .args .first .now) (c .args .next .now)
+lent c = treeOnly (c .args .parent .now) (c .args .label .now) (c .args .token .now) (c .args .first .now) (c .args .next .now)
 
 abbrev start : tie.At-loop Inv-loop μ-loop → tie.Start Inv-loop μ-loop
 start c = c .before .before .before .before .before .before .before
 
 abbrev held : tie.At-loop Inv-loop μ-loop → Tables
-held c = tables (c .loop .parent) (c .loop .label) (c .loop .token) (c .loop .first) (c .loop .next)
+held c = treeOnly (c .loop .parent) (c .loop .label) (c .loop .token) (c .loop .first) (c .loop .next)
 
 asked : (c : tie.Start Inv-loop μ-loop) → Fillable (c .args .book .now) (lent c) (c .args .many)
 asked c = c .pre
@@ -105,7 +105,7 @@ loop-again c = let a = c .before .before .before .before .before .before .before
     let l = a .insert-words .last .1 in
     fill-on (b .args .book .now) (rooted (lent b)) (b .args .many) (held (d .before .before)) (o .count) (o .at) (o .number) (o .inv)
     (d .before .loop-test .taken) (d .body-at .result) (d .body-at .ensures)
-    (record { tables = tables (l .0) (l .1 .0) (l .1 .1 .0) (l .1 .1 .1 .0) (l .1 .1 .1 .1 .0); count = a .insert-words .result }) (a .insert-words .ensures)
+    (record { tables = treeOnly (l .0) (l .1 .0) (l .1 .1 .0) (l .1 .1 .1 .0) (l .1 .1 .1 .1 .0); count = a .insert-words .result }) (a .insert-words .ensures)
 
 kept : (c : tie.At-loop Inv-loop μ-loop) → Kept (rooted (lent (start c))) (held c)
 kept c =

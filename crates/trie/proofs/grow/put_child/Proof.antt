@@ -3,14 +3,14 @@ use native.Mathlib.Omega.{arith}
 use borrow.Author.Needs.{needs}
 use lib.ListN.{length-set}
 use Rattle.tables.specs.Tables.{Tables}
-use Rattle.trie.specs.Answers.{tables}
+use Rattle.trie.specs.Answers.{treeOnly}
 use Rattle.trie.specs.Laws.InPlace.{put-as-first, put-as-last}
 use Rattle.trie.proofs.grow.put_child.Statement.{statement}
 use Rattle.trie.proofs.grow.put_child.Tie as tie
 
 -- the tables as lent
 abbrev lent : tie.Start → Tables
-lent c = tables (c .args .parent .now) (c .args .label .now) (c .args .token .now) (c .args .first .now) (c .args .next .now)
+lent c = treeOnly (c .args .parent .now) (c .args .label .now) (c .args .token .now) (c .args .first .now) (c .args .next .now)
 
 slice-write-first-2 : tie.Need-slice-write-first-2
 slice-write-first-2 c = simp length-set (omega arith)

@@ -5,7 +5,7 @@ use mathlib.Core.Path.{_≡_, ap, sym, _∙_}
 use mathlib.Core.List.{[], _∷_}
 use borrow.Author.Needs.{needs}
 use Rattle.tables.specs.Tables.{Tables}
-use Rattle.trie.specs.Answers.{tables}
+use Rattle.trie.specs.Answers.{treeOnly}
 use Rattle.trie.specs.InPlace.{putChild, placed}
 use Rattle.trie.specs.Laws.InPlace.{step-found, step-ends}
 use Rattle.trie.proofs.grow.step.Statement.{statement}
@@ -16,7 +16,7 @@ abbrev start : tie.After-walk → tie.Start
 start c = c .before .before .before .before .before .before .before .before .before .before
 
 abbrev lent : tie.After-walk → Tables
-lent c = let a = start c .args in tables (a .parent .now) (a .label .now) (a .token .now) (a .first .now) (a .next .now)
+lent c = let a = start c .args in treeOnly (a .parent .now) (a .label .now) (a .token .now) (a .first .now) (a .next .now)
 
 -- the child is new
 ends : (c : tie.After-known-told2) → let b = c .before .before .before in let last = c .before .last .given .0 .0 in

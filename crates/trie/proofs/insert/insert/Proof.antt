@@ -1,23 +1,22 @@
 -- `insert` meets its contract: the bytes left make of the tables here what the whole word makes of those lent (`Inserting`).
 use Prim.Native.Nat.{ℕ, _+_, _-_}
 use native.Mathlib.Omega.{arith}
-use mathlib.Core.Bool.{Bool, true, false}
 use mathlib.Core.List.{List, reverse}
-use mathlib.Core.Path.{_≡_, refl, ap, sym, subst, _∙_}
+use mathlib.Core.Path.{_≡_, ap, sym, subst, _∙_}
 use borrow.Author.Needs.{needs}
-use lib.ListN.{length, set, length-set, length-reverse}
+use lib.ListN.{length, set, length-set}
 use Rattle.tables.specs.Tables.{Tables}
-use Rattle.trie.specs.Answers.{tables}
+use Rattle.trie.specs.Answers.{treeOnly}
 use Rattle.trie.specs.InPlace.{Ready, placed, numbered, reversedIf}
 use Rattle.trie.specs.Laws.Over.{Kept}
 use Rattle.trie.specs.Laws.InPlace.{ready-less}
-use Rattle.trie.specs.Laws.WordInPlace.{Inserting, inserting-first, inserting-on, inserting-done, inserting-kept, word-ready, word-kept}
+use Rattle.trie.specs.Laws.WordInPlace.{either-length, Inserting, inserting-first, inserting-on, inserting-done, inserting-kept, word-ready, word-kept}
 use Rattle.trie.proofs.insert.insert.Statement.{statement}
 use Rattle.trie.proofs.insert.insert.Tie as tie
 
 abbrev Inv-loop : tie.InvT-loop
 Inv-loop body reversed parent₀ label₀ token₀ first₀ next₀ count number nodes₀ node₀ left₀ parent label token first next nodes node left =
-    Inserting (reversedIf reversed body) (tables parent₀ label₀ token₀ first₀ next₀) count (tables parent label token first next) nodes node left
+    Inserting (reversedIf reversed body) (treeOnly parent₀ label₀ token₀ first₀ next₀) count (treeOnly parent label token first next) nodes node left
 
 abbrev μ-loop : tie.MeasureT-loop
 μ-loop body reversed parent₀ label₀ token₀ first₀ next₀ count number nodes₀ node₀ left₀ parent label token first next nodes node left =
@@ -25,24 +24,20 @@ abbrev μ-loop : tie.MeasureT-loop
 
 -- the tables as lent, and the word
 abbrev lent : tie.Start Inv-loop μ-loop → Tables
-lent c = tables (c .args .parent .now) (c .args .label .now) (c .args .token .now) (c .args .first .now) (c .args .next .now)
+lent c = treeOnly (c .args .parent .now) (c .args .label .now) (c .args .token .now) (c .args .first .now) (c .args .next .now)
 
 abbrev word : tie.Start Inv-loop μ-loop → List ℕ
 word c = reversedIf (c .args .reversed) (c .args .body .now)
 
 long : (c : tie.Start Inv-loop μ-loop) → length (word c) ≡ length (c .args .body .now)
-long c = go (c .args .reversed) (c .args .body .now)
-  where
-    go : (b : Bool) (l : List ℕ) → length (reversedIf b l) ≡ length l
-    go true l = length-reverse l
-    go false l = refl
+long c = either-length (c .args .reversed) (c .args .body .now)
 
 -- at the loop, and in a turn
 abbrev start : tie.At-loop Inv-loop μ-loop → tie.Start Inv-loop μ-loop
 start c = c .before .before .before .before .before .before .before
 
 abbrev held : tie.At-loop Inv-loop μ-loop → Tables
-held c = tables (c .loop .parent) (c .loop .label) (c .loop .token) (c .loop .first) (c .loop .next)
+held c = treeOnly (c .loop .parent) (c .loop .label) (c .loop .token) (c .loop .first) (c .loop .next)
 
 kept : (c : tie.After-loop Inv-loop μ-loop) → Kept (lent (start (c .before))) (held (c .before))
 kept c =
@@ -71,7 +66,7 @@ loop-again c = let a = c .before .before .before .before .before .before .before
     let d = a .step .last in
     let x = a .before .before .before .before .before .before .byte-at in
     inserting-on (word b) (lent b) (b .args .count) (held (l .before)) (o .nodes) (o .node) (o .left) (o .inv) (l .loop-test .taken) (x .result)
-    (record { tables = tables (d .0) (d .1 .0) (d .1 .1 .0) (d .1 .1 .1 .0) (d .1 .1 .1 .1 .0); count = r .count; node = r .node })
+    (record { tables = treeOnly (d .0) (d .1 .0) (d .1 .1 .0) (d .1 .1 .1 .0) (d .1 .1 .1 .1 .0); count = r .count; node = r .node })
     (x .ensures) (a .step .ensures)
 
 mul-token : tie.Need-mul-token Inv-loop μ-loop
@@ -98,7 +93,7 @@ same-length-5 c = kept c .nexts
 -- what the word and its number make of the tables
 made : (c : tie.After-loop Inv-loop μ-loop) → let b = start (c .before) in let o = c .before .loop in
     record {
-      tables = tables (o .parent) (o .label) (set (o .token) (o .node) (b .args .number)) (o .first) (o .next);
+      tables = treeOnly (o .parent) (o .label) (set (o .token) (o .node) (b .args .number)) (o .first) (o .next);
       count = o .nodes;
     }
     ≡ numbered (placed (lent b) (b .args .count) 0 (reverse (word b))) (b .args .number)

@@ -11,7 +11,7 @@ use Rattle.rules.specs.Words.{hasReverse, wordsOf}
 use Rattle.rules.specs.Tokens.{total}
 use Rattle.rules.specs.Laws.Words.{words-both, words-own, words-bytes, turned-bytes}
 use Rattle.tables.specs.Tables.{Tables}
-use Rattle.trie.specs.Answers.{tables}
+use Rattle.trie.specs.Answers.{treeOnly}
 use Rattle.trie.specs.InPlace.{Ready, Counted, placedWords}
 use Rattle.trie.specs.Laws.InPlace.{ready-less}
 use Rattle.trie.proofs.insert.insert_words.Statement.{statement}
@@ -19,7 +19,7 @@ use Rattle.trie.proofs.insert.insert_words.Tie as tie
 
 -- the tables as lent, and the body
 abbrev lent : tie.Start → Tables
-lent c = tables (c .args .parent .now) (c .args .label .now) (c .args .token .now) (c .args .first .now) (c .args .next .now)
+lent c = treeOnly (c .args .parent .now) (c .args .label .now) (c .args .token .now) (c .args .first .now) (c .args .next .now)
 
 abbrev body : tie.Start → List ℕ
 body c = c .args .body .now
@@ -30,7 +30,7 @@ start c = c .before .before .before .before .before .before .before .before .bef
 
 abbrev once : tie.After-insert → Counted
 once c = let l = c .insert .last .1 .1 in
-    record { tables = tables (l .0) (l .1 .0) (l .1 .1 .0) (l .1 .1 .1 .0) (l .1 .1 .1 .1 .0); count = c .insert .result }
+    record { tables = treeOnly (l .0) (l .1 .0) (l .1 .1 .0) (l .1 .1 .1 .0) (l .1 .1 .1 .1 .0); count = c .insert .result }
 
 abbrev first : tie.After-insert2 → tie.After-insert
 first c = c .before .before .before .before .before .before .before .before .before .before .before .before .before .before .before .before .before
