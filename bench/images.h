@@ -109,15 +109,15 @@ static void nested_row(row_of *row) {
     row("eighths", "8 to 64");
 }
 
-/* "a" throughout, and the tokens "b" and "b" before 63 of it: nearly all bytes looked at are remembered, closing bytes too. */
-static void run_row(row_of *row) {
+/* "a" throughout, and the tokens "b" and "b" before a run of it: nearly all bytes looked at are remembered, closing bytes too. */
+static void run_row(const char *book_name, size_t size, row_of *row) {
     book_len = 0;
     book[book_len++] = 1, book[book_len++] = 'b';
-    book[book_len++] = 64, book[book_len++] = 'b';
-    memset(book + book_len, 'a', 63), book_len += 63;
+    book[book_len++] = kind_of(size), book[book_len++] = 'b';
+    memset(book + book_len, 'a', size - 1), book_len += size - 1;
     book[book_len++] = 0;
     memset(image, 'a', N);
-    row("run", "1 and 64");
+    row("run", book_name);
 }
 
 static void each_image(row_of *row) {
@@ -126,7 +126,7 @@ static void each_image(row_of *row) {
     random_rows("random", random_image, row);
     random_rows("memory", memory_image, row);
     nested_row(row);
-    run_row(row);
+    run_row("1 and 64", 64, row);
     random_row("random", random_image, "256 x 7", 256, 7, row);
     random_row("memory", memory_image, "256 x 7", 256, 7, row);
     free(image);

@@ -405,6 +405,49 @@ static void nested_case(void) {
     }
 }
 
+/* The letters of a case of runs: 00h or 'a' for the first. */
+static uint8_t run_letter(uint32_t letters, int zeros) {
+    uint8_t k = below(letters);
+    return k || !zeros ? 'a' + k : 0;
+}
+
+/* A body of some letters between two runs, each of one byte and maybe empty; now and then none but long ones. */
+static size_t padded_body(uint8_t body[1024], uint32_t letters, int zeros, int large) {
+    static const size_t sizes[] = {1, 4, 7, 8, 8, 10, 16, 16, 24, 40, 64, 64, 128, 512, 1024};
+    size_t size = sizes[large ? 12 + below(3) : below(below(8) ? 12 : 15)], front = below(size + 1);
+    size_t behind = below(3) ? below(size - front + 1) : size - front;
+    for (size_t i = 0; i < size; i++) body[i] = run_letter(letters, zeros);
+    memset(body, run_letter(2, zeros), front), memset(body + size - behind, run_letter(2, zeros), behind);
+    return size;
+}
+
+static size_t size_at(size_t at) { return book[at] <= 64 ? book[at] : (size_t)128 << (book[at] - 65); }
+
+/* Runs of one byte, with tokens and some letters between them; its length. */
+static size_t run_image(uint32_t letters, int zeros) {
+    size_t n = 0, least = below(8) ? 100 + below(500) : 2000;
+    while (n < least) {
+        size_t at = 0, run = below(3) ? below(40) : below(1200), few = below(6);
+        memset(image + n, run_letter(2, zeros), run), n += run;
+        for (; few; few--) image[n++] = run_letter(letters, zeros);
+        for (size_t k = below(4); k && book[at]; k--) at += 1 + size_at(at);
+        if (below(2)) plant(book + at + 1, size_at(at), n), n += size_at(at);
+    }
+    return n;
+}
+
+/* Tokens padded on either side or both, in an image of runs. */
+static void run_case(void) {
+    static const size_t lens[TABLES] = {4200, 4200, 4200, 4200, 4200, 4200};
+    uint8_t body[1024];
+    uint32_t letters = 2 + below(2);
+    int zeros = below(2), large = !below(8);
+    book_len = 0;
+    for (size_t many = 1 + below(4); many; many--) add(body, padded_body(body, letters, zeros, large));
+    book[book_len++] = 0;
+    check(book, book_len, image, run_image(letters, zeros), lens);
+}
+
 /* An accepted book, with each table in turn an entry too short, and none. */
 static void short_cases(void) {
     size_t lens[TABLES], n = 40;
@@ -502,6 +545,7 @@ int main(void) {
     image = malloc(LIMIT + 1);
     for (int i = 0; i < 4000; i++) random_case();
     for (int i = 0; i < 300; i++) nested_case();
+    for (int i = 0; i < 400; i++) run_case();
     for (int i = 0; i < 100; i++) short_cases();
     every_length(0), every_length(1);
     largest_books();

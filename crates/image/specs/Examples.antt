@@ -1,4 +1,5 @@
--- Samples of what the enum's cases say, the number of hits or the refusal, and the bytes fetched and spared; and of a round and its hits.
+-- Samples of what the enum's cases say, the number of hits or the refusal, and the bytes fetched and spared; of a round and its hits; and of
+-- stretches by their places.
 use Prim.Native.Nat.{ℕ}
 use mathlib.Core.Path.{_≡_, refl}
 use mathlib.Core.List.{List, [], _∷_}
@@ -11,6 +12,7 @@ use Rattle.image.specs.declared.Swept.the-variants.{Whole, Unread, TooSh
 use Rattle.image.specs.Results.{sweptOf, fetchedOf, sparedOf}
 use Rattle.image.specs.Rounds.{Reached, reached, met}
 use Rattle.image.specs.Walk.{treeIn, newest, notes}
+use Rattle.image.specs.Spans.{Places, spansOf, inUse, renewed}
 
 abbrev found : Found
 found = record { hits = 5; fetched = 40; spared = 6 }
@@ -53,3 +55,14 @@ short-buffer = refl
 -- The first three of four numbers, the last of them first.
 newest-first : newest (1 ∷ 2 ∷ 3 ∷ 4 ∷ []) 3 ≡ 3 ∷ 2 ∷ 1 ∷ []
 newest-first = refl
+
+abbrev stretch : ℕ → ℕ → Places
+stretch l r = record { left = l; right = r; node = tt }
+
+-- Two stretches in use, of three.
+two-in-use : inUse (spansOf (1 ∷ 4 ∷ 7 ∷ []) (3 ∷ 6 ∷ 9 ∷ []) 2) ≡ stretch 1 3 ∷ stretch 4 6 ∷ []
+two-in-use = refl
+
+-- A round matched the places from 10 up to 30 and shifts by 5: its stretch is kept, and one that ends at 8 is too short by then.
+one-kept : renewed 10 30 35 (stretch 0 8 ∷ []) ≡ stretch 10 30 ∷ []
+one-kept = refl

@@ -3,6 +3,7 @@ pub mod Results
 pub mod Examples
 pub mod Rounds
 pub mod Walk
+pub mod Runs
 pub mod Spans
 pub mod Rule5
 pub mod Sweeping

@@ -8,7 +8,21 @@ use Rattle.rules.specs.Laws.All.{All}
 use Rattle.rules.specs.Laws.Remember.{Lies}
 use Rattle.rules.specs.Laws.Image.{stretchesOf}
 use Rattle.image.specs.declared.spans.Span.{Span}
-use Rattle.image.specs.declared.spans.Spans.{Spans}
+
+-- The stretches by rising place, and how many of them are in use.
+pub record Spans : Type 0 where
+  pub spans : List Span
+  pub used : ℕ
+
+-- a stretch for each left and right edge
+abbrev pub edged : List ℕ → List ℕ → List Span
+edged [] rights = []
+edged (l ∷ lefts) [] = []
+edged (l ∷ lefts) (r ∷ rights) = record { left = l; right = r } ∷ edged lefts rights
+
+-- the stretches as the code has them, in two lists of edges
+abbrev pub spansOf : List ℕ → List ℕ → ℕ → Spans
+spansOf lefts rights used = record { spans = edged lefts rights; used = used }
 
 -- a stretch's places, without its node
 abbrev pub Places : Type 0

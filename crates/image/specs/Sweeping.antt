@@ -12,14 +12,13 @@ use Rattle.book.specs.Book.{readBook, accepted, maxImage, maxBody}
 use Rattle.book.specs.Laws.Accepted.{accepted-setting}
 use Rattle.trie.specs.Answers.{tables}
 use Rattle.tables.specs.Laws.Represents.{Represents}
-use Rattle.image.specs.declared.spans.Spans.{Spans}
 use Rattle.image.specs.declared.skim.Skipped.{Skipped}
 use Rattle.image.specs.declared.turn.Outcome.{Outcome}
 use Rattle.image.specs.declared.walk.Stop.{Stop}
 use Rattle.image.specs.declared.walk.Stop.the-variants.{Byte, Nothing}
 use Rattle.whole.specs.Image.{hitsOf, fetchesOf, sparesOf}
 use Rattle.image.specs.Rounds.{Reached, reached, met, lowest}
-use Rattle.image.specs.Spans.{placesOf, inUse}
+use Rattle.image.specs.Spans.{Spans, placesOf, inUse}
 use Rattle.image.specs.Rule5.{tokensOf, wordsIn, Accepted, closingOf, ByByte, BySkip}
 use Rattle.image.specs.Laws.Round.{Starts, fetchesFrom, sparesFrom, hitsFrom}
 

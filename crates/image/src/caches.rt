@@ -33,7 +33,8 @@ fn byte_shift(book: &[u8], depth: usize, byte: u8, shortest: usize, cache: &mut 
     by
 }
 
-// Rule 5 for a round that ended at `node`, `depth` deep.
+// Rule 5 for a round that ended at `node`, `depth` deep. Where the shortest token, moved by one, lies right of the closing byte, the byte
+// shift is 1.
 pub fn shift(
     book: &[u8],
     shift: &[u16],
@@ -52,6 +53,11 @@ pub fn shift(
     let by = wide(shift[node]);
     match stop {
         Stop::Nothing => by,
-        Stop::Byte(x) => greater(by, byte_shift(book, depth, x, shortest, bytes)),
+        Stop::Byte(x) => {
+            if shortest - 1 <= depth {
+                return by;
+            }
+            greater(by, byte_shift(book, depth, x, shortest, bytes))
+        }
     }
 }

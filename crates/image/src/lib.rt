@@ -2,6 +2,7 @@
 mod caches;
 mod rounds;
 mod rule5;
+mod runs;
 mod skim;
 mod spans;
 mod turn;

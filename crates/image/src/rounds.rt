@@ -1,19 +1,24 @@
 // The rounds of a sweep, one after the other.
 ghost use mathlib.Core.Path.{_≡_};
+ghost use mathlib.Core.Bool.{false};
 ghost use lib.ListN.{length};
 ghost use Rattle.book.specs.Book.{maxBody};
 ghost use Rattle.trie.specs.Chain.{Kids};
 ghost use Rattle.whole.specs.Image.{room, hitsOf, fetchesOf, sparesOf, noted};
 ghost use Rattle.image.specs.Rule5.{tokensOf};
+ghost use Rattle.image.specs.Runs.{Powers};
 ghost use Rattle.image.specs.Sweeping.{Given, Caches};
 use crate::Found;
+use crate::runs;
+use crate::runs::follow;
 use crate::skim::ahead;
 use crate::spans;
 use crate::turn::attempt;
 use crate::turn::forgets;
 use book::Book;
 
-// All rounds. The stretches are a variable of their own: most rounds leave them alone.
+// All rounds, with `used` stretches remembered; `again` says that the last round went down more bytes than it shifted by, so that the next
+// goes down some of them again.
 fn rounds(
     book: &[u8],
     image: &[u8],
@@ -25,6 +30,11 @@ fn rounds(
     count: usize,
     kids: &[u16],
     shortest: usize,
+    lefts: &mut [usize],
+    rights: &mut [usize],
+    power: &mut [usize],
+    upto: &mut [usize],
+    numbers: &mut [u16],
     kept: &mut [u16],
     ends: &mut [u32],
     tokens: &mut [u32],
@@ -34,6 +44,8 @@ fn rounds(
 ) -> Found
     requires given { ⌜ Given (now book) (now image) (now label) (now token) (now first) (now next) (now shift) count shortest ⌝ }
     requires kids { ⌜ Kids (now label) (now first) (now next) count (now kids) ⌝ }
+    requires stretches { ⌜ (length (now lefts) ≡ 5) × (length (now rights) ≡ 5) ⌝ }
+    requires powers { ⌜ Powers (now label) (now token) (now first) (now next) count 0 0 false (now power) (now upto) (now numbers) ⌝ }
     requires room { ⌜ length (now kept) ≡ maxBody ⌝ }
     requires caches { ⌜ Caches (now book) (now image) shortest (now bytes) (now skip) (now pairs) ⌝ }
     ensures hits { λ r. ⌜ r .hits ≡ length (hitsOf (tokensOf (now (book .entry))) (now (image .entry))) ⌝ }
@@ -45,11 +57,27 @@ fn rounds(
         (hitsOf (tokensOf (now (book .entry))) (now (image .entry))) (now (tokens .entry)) ⌝ }
 {
     let mut b = shortest;
-    let mut spans = spans::none();
+    let mut used = 0;
     let mut fetched = 0;
     let mut spared = 0;
     let mut hits = 0;
+    let mut runs = runs::none();
+    let mut again = false;
     while b <= image.len() {
+        runs = follow(
+            runs,
+            again,
+            image,
+            b,
+            label,
+            token,
+            first,
+            next,
+            count,
+            power,
+            upto,
+            numbers,
+        );
         let a = attempt(
             b,
             hits,
@@ -63,6 +91,10 @@ fn rounds(
             count,
             kids,
             shortest,
+            runs,
+            power,
+            upto,
+            numbers,
             kept,
             ends,
             tokens,
@@ -70,16 +102,17 @@ fn rounds(
             skip,
             pairs,
         );
-        if forgets(spans.used, a.depth, a.by) {
+        if forgets(used, a.depth, a.by) {
             fetched += b - a.low;
         } else {
-            let loose = spans::loose(spans, a.low, b);
+            let loose = spans::loose(lefts, rights, used, a.low, b);
             fetched += loose;
             spared += b - a.low - loose;
-            spans = spans::remember(spans, b - a.depth, b, b + a.by);
+            used = spans::remember(lefts, rights, used, b - a.depth, b, b + a.by);
         }
         hits = a.hits;
-        let on = ahead(b + a.by, spans.used, image, skip, pairs, shortest);
+        again = a.by < a.depth;
+        let on = ahead(b + a.by, used, image, skip, pairs, shortest);
         b = on.boundary;
         fetched += on.looks;
     }
@@ -114,6 +147,11 @@ pub fn sweep(
         (hitsOf (tokensOf (now (book .entry))) (now (image .entry))) (now (tokens .entry)) ⌝ }
 {
     let kids = trie::chain::root_children(label, first, next, count);
+    let mut lefts = [0usize; 5];
+    let mut rights = [0usize; 5];
+    let mut power = [0usize; 1 + Book::BODY];
+    let mut upto = [0usize; 1 + Book::BODY];
+    let mut numbers = [0u16; Book::BODY];
     let mut kept = [0u16; Book::BODY];
     let mut bytes = [0u16; 256 * 64];
     let mut skip = [0u16; 256];
@@ -129,6 +167,11 @@ pub fn sweep(
         count,
         &kids,
         shortest,
+        &mut lefts,
+        &mut rights,
+        &mut power,
+        &mut upto,
+        &mut numbers,
         &mut kept,
         ends,
         tokens,

@@ -41,15 +41,15 @@ fn byte_words(body: &[u8], depth: usize, x: u8, best: usize) -> usize
     byte_least(&word[..body.len()], depth, x, own)
 }
 
-// The byte shift of the byte x left of `depth` matched ones, token by token: the words of each are searched below the best so far. The book
-// ends with 00h.
+// The byte shift of the byte x left of `depth` matched ones, token by token: the words of each are searched below the best so far, until
+// it is 1, which none lowers. The book ends with 00h.
 pub fn byte_shift(book: &[u8], depth: usize, x: u8, shortest: usize) -> usize
     requires { ⌜ Accepted (now book) shortest ⌝ }
     ensures { λ r. ⌜ r ≡ byteShift (wordsIn (now (book .entry))) shortest depth (some x) ⌝ }
 {
     let mut best = shortest;
     let mut at = 0;
-    while at + 1 < book.len() {
+    while 1 < best && at + 1 < book.len() {
         let start = at + 1;
         let end = start + book::body_at(book, at);
         best = byte_words(&book[start..end], depth, x, best);

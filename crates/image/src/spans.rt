@@ -1,12 +1,13 @@
 // Remembered stretches, by their places alone: the image at hand has their bytes.
-ghost use Prim.Native.Nat.{_+_, _^_, _≤_, _<_};
+ghost use Prim.Native.Nat.{_^_, _≤_, _<_};
 ghost use mathlib.Core.Path.{_≡_};
-ghost use mathlib.Core.List.{[], _∷_, _++_};
+ghost use mathlib.Core.Bool.{_&&_};
+ghost use lib.Dec.{ltb};
 ghost use lib.ListN.{length};
 ghost use Rattle.rules.specs.Rules.{leftOver, cut, kept};
 ghost use Rattle.rules.specs.Laws.Limit.Count.{loose};
 ghost use Rattle.rules.specs.Laws.Remember.{Lies, staying};
-ghost use Rattle.image.specs.Spans.{placed, inUse, renewed, Fits};
+ghost use Rattle.image.specs.Spans.{spansOf, placed, inUse, renewed, Fits};
 
 // A stretch: the places from left up to right, right not included.
 pub struct Span {
@@ -14,38 +15,22 @@ pub struct Span {
     pub right: usize,
 }
 
-// The stretches by rising place, and how many there are.
-pub struct Spans {
-    pub spans: [Span; 5],
-    pub used: usize,
-}
-
-// Nothing is remembered.
-pub fn none() -> Spans
-    ensures { λ r. ⌜ (inUse r ≡ []) × (r .used ≡ 0) ⌝ }
-{
-    Spans {
-        spans: [Span { left: 0, right: 0 }; 5],
-        used: 0,
-    }
-}
-
-// How many places from q up to b lie in no stretch.
-pub fn loose(f: Spans, q: usize, b: usize) -> usize
-    requires fits { ⌜ Fits b f ⌝ }
+// How many places from q up to b lie in none of the stretches in use, of which there are `used`, by rising place.
+pub fn loose(lefts: &[usize], rights: &[usize], used: usize, q: usize, b: usize) -> usize
+    requires room { ⌜ (length (now lefts) ≡ 5) × (length (now rights) ≡ 5) ⌝ }
+    requires fits { ⌜ Fits b (spansOf (now lefts) (now rights) used) ⌝ }
     requires numbers { ⌜ (q ≤ b) × (b < 2 ^ 32) ⌝ }
-    ensures { λ r. ⌜ r ≡ loose b q (inUse f) ⌝ }
+    ensures { λ r. ⌜ r ≡ loose b q (inUse (spansOf (now (lefts .entry)) (now (rights .entry)) used)) ⌝ }
 {
     let mut from = q;
     let mut n = 0;
     let mut i = 0;
-    while i < f.used {
-        let s = f.spans[i];
-        if from < s.left {
-            n += s.left - from;
+    while i < used {
+        if from < lefts[i] {
+            n += lefts[i] - from;
         }
-        if from < s.right {
-            from = s.right;
+        if from < rights[i] {
+            from = rights[i];
         }
         i += 1;
     }
@@ -60,30 +45,17 @@ fn keeps(b: usize, s: Span) -> bool
     4 * (b - s.right) <= s.right - s.left
 }
 
-// A stretch more.
-fn put(f: Spans, s: Span) -> Spans
-    requires { ⌜ f .used < 5 ⌝ }
-    ensures { λ r. ⌜ (inUse r ≡ inUse f ++ (placed s ∷ [])) × (r .used ≡ f .used + 1) ⌝ }
-{
-    let mut out = f;
-    let n = f.used;
-    out.spans[n] = s;
-    out.used = n + 1;
-    out
-}
-
 // Rule 4: where the new stretch begins, at `from` or at the right edge of the nearest stretch left over.
-fn edge(f: Spans, from: usize) -> usize
-    requires { ⌜ f .used ≤ 5 ⌝ }
-    ensures { λ r. ⌜ r ≡ cut from (leftOver from (inUse f)) ⌝ }
+fn edge(lefts: &[usize], rights: &[usize], used: usize, from: usize) -> usize
+    requires { ⌜ (length (now lefts) ≡ 5) × (length (now rights) ≡ 5) × (used ≤ 5) ⌝ }
+    ensures { λ r. ⌜ r ≡ cut from (leftOver from (inUse (spansOf (now (lefts .entry)) (now (rights .entry)) used))) ⌝ }
 {
     let mut far = from;
     let mut i = 0;
-    while i < f.used {
-        let s = f.spans[i];
-        if s.left < from {
-            if far < s.right {
-                far = s.right;
+    while i < used {
+        if lefts[i] < from {
+            if far < rights[i] {
+                far = rights[i];
             }
         }
         i += 1;
@@ -91,50 +63,65 @@ fn edge(f: Spans, from: usize) -> usize
     far
 }
 
-// Rules 4 and 6: the stretches with one more, if it is left over and kept.
-fn sift(from: usize, next: usize, f: Spans, s: Span) -> Spans
-    requires room { ⌜ f .used < 5 ⌝ }
-    requires lies { ⌜ Lies next (placed s) ⌝ }
-    ensures { λ r. ⌜ (inUse r ≡ inUse f ++ staying from next (placed s ∷ [])) × (r .used ≤ f .used + 1) ⌝ }
+// Rules 4 and 6: a stretch is left over and kept.
+fn stays(from: usize, next: usize, s: Span) -> bool
+    requires { ⌜ Lies next (placed s) ⌝ }
+    ensures { λ r. ⌜ r ≡ (ltb (s .left) from && kept next (placed s)) ⌝ }
 {
     if from <= s.left {
-        return f;
+        return false;
     }
-    if !keeps(next, s) {
-        return f;
-    }
-    put(f, s)
+    keeps(next, s)
 }
 
-// Rules 4 and 6: the stretches that are left over and kept.
-fn held(f: Spans, from: usize, next: usize) -> Spans
-    requires { ⌜ Fits next f ⌝ }
-    ensures { λ r. ⌜ (inUse r ≡ staying from next (inUse f)) × (r .used ≤ 5) ⌝ }
+// Rules 4 and 6: the stretches that are left over and kept, moved to the front. Answers how many there are.
+fn hold(lefts: &mut [usize], rights: &mut [usize], used: usize, from: usize, next: usize) -> usize
+    requires room { ⌜ (length (now lefts) ≡ 5) × (length (now rights) ≡ 5) ⌝ }
+    requires fits { ⌜ Fits next (spansOf (now lefts) (now rights) used) ⌝ }
+    ensures { λ r. ⌜ (inUse (spansOf (now (lefts .exit)) (now (rights .exit)) r) ≡ staying from next (inUse (spansOf (now (lefts .entry)) (now (rights .entry)) used))) × (r ≤ 5) ⌝ }
 {
-    let mut out = none();
+    let mut n = 0;
     let mut i = 0;
-    while i < f.used {
-        let s = f.spans[i];
-        out = sift(from, next, out, s);
+    while i < used {
+        let s = Span {
+            left: lefts[i],
+            right: rights[i],
+        };
+        if stays(from, next, s) {
+            lefts[n] = s.left;
+            rights[n] = s.right;
+            n += 1;
+        }
         i += 1;
     }
-    out
+    n
 }
 
-// Rules 4 and 6: what is remembered after a round that matched from place `from` up to b, when the boundary moves to `next`.
-pub fn remember(f: Spans, from: usize, b: usize, next: usize) -> Spans
-    requires fits { ⌜ Fits b f ⌝ }
+// Rules 4 and 6: what is remembered after a round that matched from place `from` up to b, when the boundary moves to `next`. Answers how
+// many stretches are then in use.
+pub fn remember(
+    lefts: &mut [usize],
+    rights: &mut [usize],
+    used: usize,
+    from: usize,
+    b: usize,
+    next: usize,
+) -> usize
+    requires room { ⌜ (length (now lefts) ≡ 5) × (length (now rights) ≡ 5) ⌝ }
+    requires fits { ⌜ Fits b (spansOf (now lefts) (now rights) used) ⌝ }
     requires numbers { ⌜ (from ≤ b) × (b ≤ next) × (next < 2 ^ 32) ⌝ }
-    requires few { ⌜ length (renewed from b next (inUse f)) ≤ 5 ⌝ }
-    ensures { λ r. ⌜ (inUse r ≡ renewed from b next (inUse f)) × (r .used ≤ 5) ⌝ }
+    requires few { ⌜ length (renewed from b next (inUse (spansOf (now lefts) (now rights) used))) ≤ 5 ⌝ }
+    ensures { λ r. ⌜ (inUse (spansOf (now (lefts .exit)) (now (rights .exit)) r) ≡ renewed from b next (inUse (spansOf (now (lefts .entry)) (now (rights .entry)) used))) × (r ≤ 5) ⌝ }
 {
     let new = Span {
-        left: edge(f, from),
+        left: edge(lefts, rights, used, from),
         right: b,
     };
-    let out = held(f, from, next);
+    let n = hold(lefts, rights, used, from, next);
     if !keeps(next, new) {
-        return out;
+        return n;
     }
-    put(out, new)
+    lefts[n] = new.left;
+    rights[n] = new.right;
+    n + 1
 }

@@ -8,9 +8,11 @@ ghost use lib.ListN.{length};
 ghost use Rattle.book.specs.Book.{maxBody};
 ghost use Rattle.trie.specs.Chain.{Kids};
 ghost use Rattle.image.specs.Walk.{Noted};
+ghost use Rattle.image.specs.Runs.{Followed};
 ghost use Rattle.image.specs.Rule5.{BySkip};
 ghost use Rattle.image.specs.Sweeping.{lowestOf, Learns, Given, metAt, ByPair, Sees, Caches, Begun, Ended};
 use crate::caches;
+use crate::runs::Runs;
 use crate::walk::Stop;
 use crate::walk::descend;
 use crate::walk::mark;
@@ -89,6 +91,10 @@ pub fn attempt(
     count: usize,
     kids: &[u16],
     shortest: usize,
+    runs: Runs,
+    power: &[usize],
+    upto: &[usize],
+    numbers: &[u16],
     kept: &mut [u16],
     ends: &mut [u32],
     tokens: &mut [u32],
@@ -99,6 +105,7 @@ pub fn attempt(
     requires given { ⌜ Given (now book) (now image) (now label) (now token) (now first) (now next) (now shift) count shortest ⌝ }
     requires begun { ⌜ Begun (now book) (now image) b hits ⌝ }
     requires kids { ⌜ Kids (now label) (now first) (now next) count (now kids) ⌝ }
+    requires followed { ⌜ Followed (now label) (now token) (now first) (now next) count (now image) runs (now power) (now upto) (now numbers) ⌝ }
     requires room { ⌜ length (now kept) ≡ maxBody ⌝ }
     requires caches { ⌜ Caches (now book) (now image) shortest (now bytes) (now skip) (now pairs) ⌝ }
     ensures ended { λ r. ⌜ Ended (now (book .entry)) (now (image .entry)) b r ⌝ }
@@ -108,7 +115,21 @@ pub fn attempt(
         ⌝ }
     ensures caches { λ r. ⌜ Caches (now (book .entry)) (now (image .entry)) shortest (now (bytes .exit)) (now (skip .exit)) (now (pairs .exit)) ⌝ }
 {
-    let arrival = descend(image, label, token, first, next, count, kids, b, kept);
+    let arrival = descend(
+        image,
+        label,
+        token,
+        first,
+        next,
+        count,
+        kids,
+        b,
+        runs,
+        power,
+        upto,
+        numbers,
+        kept,
+    );
     let depth = arrival.depth;
     let stop = arrival.stop;
     let by = caches::shift(book, shift, arrival.node, depth, stop, shortest, bytes);

@@ -7,8 +7,11 @@ ghost use Rattle.book.specs.Book.{maxImage};
 ghost use Rattle.trie.specs.Chain.{Kids};
 ghost use Rattle.whole.specs.Image.{room};
 ghost use Rattle.image.specs.Rounds.{meeting, reached};
-ghost use Rattle.image.specs.Walk.{treeIn, Walkable, newest, arrivalOf, note, Noted};
+ghost use Rattle.image.specs.Walk.{treeIn, Walkable, Descending, newest, Arrived, note, Noted};
+ghost use Rattle.image.specs.Runs.{Followed};
+use crate::runs::Runs;
 use trie::Child;
+use trie::entries::least;
 use trie::entries::wide;
 
 // What ended a round: a byte that no child has, or nothing.
@@ -25,8 +28,15 @@ pub struct Arrival {
     pub met: usize,
 }
 
+// Where a way down has come to: a node, its depth, and how many tokens were met.
+pub struct Way {
+    pub node: usize,
+    pub depth: usize,
+    pub met: usize,
+}
+
 // Keeps a token's number behind the n before it; 0 is none. Answers how many there are then.
-fn keep(kept: &mut [u16], n: usize, number: u16) -> usize
+pub fn keep(kept: &mut [u16], n: usize, number: u16) -> usize
     requires { ⌜ n < length (now kept) ⌝ }
     ensures size { λ r. ⌜ r ≡ length (meeting (newest (now (kept .entry)) n) number) ⌝ }
     ensures kept { λ r. ⌜ newest (now (kept .exit)) r ≡ meeting (newest (now (kept .entry)) n) number ⌝ }
@@ -38,44 +48,29 @@ fn keep(kept: &mut [u16], n: usize, number: u16) -> usize
     n + 1
 }
 
-// Rules 2 and 3 in a round at boundary b: as far down as the image's bytes lead. The tokens on the way are kept, the longest last.
-pub fn descend(
+// Rules 2 and 3 from a node on the way down from boundary b: as far as the image's bytes lead.
+fn walk(
     image: &[u8],
     label: &[u8],
     token: &[u16],
     first: &[u16],
     next: &[u16],
     count: usize,
-    kids: &[u16],
     b: usize,
+    way: Way,
     kept: &mut [u16],
 ) -> Arrival
     requires place { ⌜ (0 < b) × (b ≤ length (now image)) ⌝ }
     requires tables { ⌜ Walkable (now label) (now token) (now first) (now next) count ⌝ }
-    requires kids { ⌜ Kids (now label) (now first) (now next) count (now kids) ⌝ }
+    requires way { ⌜ Descending (now label) (now token) (now first) (now next) (now image) (now kept) count b (way .node) (way .depth) (way .met) ⌝ }
     requires room { ⌜ reached (treeIn (now label) (now token) (now first) (now next) count) (now image) b .depth ≤ length (now kept) ⌝ }
-    ensures arrival { λ r. ⌜
-        r ≡ arrivalOf (reached (treeIn (now (label .entry)) (now (token .entry)) (now (first .entry)) (now (next .entry)) count)
-        (now (image .entry)) b)
+    ensures { λ r. ⌜
+        Arrived (now (label .entry)) (now (token .entry)) (now (first .entry)) (now (next .entry)) count (now (image .entry)) b (now (kept .exit)) r
         ⌝ }
-    ensures kept { λ r. ⌜
-        newest (now (kept .exit)) (r .met)
-        ≡ reached (treeIn (now (label .entry)) (now (token .entry)) (now (first .entry)) (now (next .entry)) count) (now (image .entry)) b .tokens
-        ⌝ }
-    ensures few { λ r. ⌜ r .met ≤ r .depth ⌝ }
 {
-    let x = image[b - 1];
-    let mut node = wide(kids[x as usize]);
-    if node == 0 {
-        return Arrival {
-            node: 0,
-            depth: 0,
-            stop: Stop::Byte(x),
-            met: 0,
-        };
-    }
-    let mut depth = 1;
-    let mut met = keep(kept, 0, token[node]);
+    let mut node = way.node;
+    let mut depth = way.depth;
+    let mut met = way.met;
     while first[node] != 0 && depth != b {
         let x = image[b - 1 - depth];
         match trie::chain::child(label, first, next, count, node, x) {
@@ -100,6 +95,136 @@ pub fn descend(
         stop: Stop::Nothing,
         met,
     }
+}
+
+// Keeps the first n of the numbers.
+fn copy(numbers: &[u16], n: usize, kept: &mut [u16])
+    requires { ⌜ (n ≤ length (now numbers)) × (n ≤ length (now kept)) ⌝ }
+    ensures { λ r. ⌜ newest (now (kept .exit)) n ≡ newest (now (numbers .entry)) n ⌝ }
+{
+    let mut i = 0;
+    while i < n {
+        kept[i] = numbers[i];
+        i += 1;
+    }
+}
+
+// Rules 2 and 3 where a run ends at boundary b: to its power at once, and on from there.
+fn along(
+    image: &[u8],
+    label: &[u8],
+    token: &[u16],
+    first: &[u16],
+    next: &[u16],
+    count: usize,
+    b: usize,
+    runs: Runs,
+    power: &[usize],
+    upto: &[usize],
+    numbers: &[u16],
+    kept: &mut [u16],
+) -> Arrival
+    requires place { ⌜ (0 < b) × (b ≤ length (now image)) ⌝ }
+    requires tables { ⌜ Walkable (now label) (now token) (now first) (now next) count ⌝ }
+    requires followed { ⌜ Followed (now label) (now token) (now first) (now next) count (now image) runs (now power) (now upto) (now numbers) ⌝ }
+    requires run { ⌜ runs .till ≡ b ⌝ }
+    requires room { ⌜ reached (treeIn (now label) (now token) (now first) (now next) count) (now image) b .depth ≤ length (now kept) ⌝ }
+    ensures { λ r. ⌜
+        Arrived (now (label .entry)) (now (token .entry)) (now (first .entry)) (now (next .entry)) count (now (image .entry)) b (now (kept .exit)) r
+        ⌝ }
+{
+    let depth = least(b - runs.from, runs.known);
+    let node = power[depth];
+    let met = upto[depth];
+    copy(numbers, met, kept);
+    if runs.ended && depth < b - runs.from && first[node] != 0 {
+        return Arrival {
+            node,
+            depth,
+            stop: Stop::Byte(runs.byte),
+            met,
+        };
+    }
+    walk(
+        image,
+        label,
+        token,
+        first,
+        next,
+        count,
+        b,
+        Way { node, depth, met },
+        kept,
+    )
+}
+
+// Rules 2 and 3 in a round at boundary b: as far down as the image's bytes lead. The tokens on the way are kept, the longest last.
+pub fn descend(
+    image: &[u8],
+    label: &[u8],
+    token: &[u16],
+    first: &[u16],
+    next: &[u16],
+    count: usize,
+    kids: &[u16],
+    b: usize,
+    runs: Runs,
+    power: &[usize],
+    upto: &[usize],
+    numbers: &[u16],
+    kept: &mut [u16],
+) -> Arrival
+    requires place { ⌜ (0 < b) × (b ≤ length (now image)) ⌝ }
+    requires tables { ⌜ Walkable (now label) (now token) (now first) (now next) count ⌝ }
+    requires kids { ⌜ Kids (now label) (now first) (now next) count (now kids) ⌝ }
+    requires followed { ⌜ Followed (now label) (now token) (now first) (now next) count (now image) runs (now power) (now upto) (now numbers) ⌝ }
+    requires room { ⌜ reached (treeIn (now label) (now token) (now first) (now next) count) (now image) b .depth ≤ length (now kept) ⌝ }
+    ensures { λ r. ⌜
+        Arrived (now (label .entry)) (now (token .entry)) (now (first .entry)) (now (next .entry)) count (now (image .entry)) b (now (kept .exit)) r
+        ⌝ }
+{
+    if runs.till == b {
+        return along(
+            image,
+            label,
+            token,
+            first,
+            next,
+            count,
+            b,
+            runs,
+            power,
+            upto,
+            numbers,
+            kept,
+        );
+    }
+    let x = image[b - 1];
+    let node = wide(kids[x as usize]);
+    if node == 0 {
+        return Arrival {
+            node: 0,
+            depth: 0,
+            stop: Stop::Byte(x),
+            met: 0,
+        };
+    }
+    let met = keep(kept, 0, token[node]);
+    walk(
+        image,
+        label,
+        token,
+        first,
+        next,
+        count,
+        b,
+        Way {
+            node,
+            depth: 1,
+            met,
+        },
+        kept,
+    )
 }
 
 // A hit's end and token, if both buffers have room for it.

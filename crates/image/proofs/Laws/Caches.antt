@@ -1,19 +1,25 @@
 -- The cache stays right where it is given a shift that is right, and the shifts fit its entries; and the greater of two shifts.
-use Prim.Native.Nat.{ℕ, _+_, _*_, _≤_, _<_, max}
+use Prim.Native.Nat.{ℕ, _+_, _-_, _*_, _≤_, _<_, max}
 use native.Mathlib.Omega.{arith}
 use mathlib.Core.Path.{_≡_, ap, _∙_}
-use mathlib.Core.Bool.{Bool}
-use mathlib.Core.List.{List}
+use mathlib.Core.Bool.{Bool, true}
+use mathlib.Core.List.{List, []}
 use mathlib.Core.Option.{Option, some, none}
 use lib.ListN.{length, getD, set, length-set}
 use lib.Seq.{getD-set-same, getD-set-other}
 use mir.Syntax.{w16}
 use mir.Val.{Fits}
-use Rattle.rules.specs.Tokens.{byteShift}
-use Rattle.rules.specs.Laws.Tests.{split}
+use borrow.Author.Tests.{le-leb}
+use Rattle.rules.specs.Lists.{anyOf}
+use Rattle.rules.specs.Tokens.{agrees, byteShift}
+use Rattle.rules.specs.Laws.Tests.{split, least-ge, least-le}
+use Rattle.rules.specs.Laws.Words.{own-word, word-in}
+use Rattle.rules.specs.Laws.Fits.{byte-shift-is}
+use Rattle.rules.specs.Laws.Lengths.{shortest-is}
+use Rattle.book.specs.Laws.Accepted.{accepted-some}
 use Rattle.agree.specs.Tests.{leastOf}
 use Rattle.agree.specs.Laws.Least.{least-bounds}
-use Rattle.image.specs.Rule5.{wordsIn, Accepted, Right, ByByte}
+use Rattle.image.specs.Rule5.{tokensOf, wordsIn, Accepted, Right, ByByte}
 use Rattle.image.proofs.Laws.Rule5.{shortest-near}
 
 -- An entry of the cache that is given `by` at i.
@@ -43,10 +49,24 @@ module _ {book : List ℕ} {S : ℕ} {cache : List ℕ} (by : ℕ) where
         (b .right d x kd kx);
   }
 
+-- Where the shortest token, moved by one, lies right of the closing byte, it fits.
+pub byte-one : {book : List ℕ} {S : ℕ} → Accepted book S → (d x : ℕ) → S - 1 ≤ d → byteShift (wordsIn book) S d (some x) ≡ 1
+byte-one {book} {S} a d x h =
+    let ts = tokensOf book in
+    let s = shortest-is ts (accepted-some book ts (a .read)) in
+    let t = getD ts (s .0) [] in
+    let p : ℕ → Bool = λ s. anyOf (λ t. agrees t s d x) (wordsIn book) in
+    let near : length t ≤ d + 1 = omega (arith, s .2, a .short) in
+    let one : p 1 ≡ true = word-in (λ t. agrees t 1 d x) ts (s .0) t (s .1) (own-word t) (cc (le-leb (length t) (d + 1) near)) in
+    byte-shift-is (wordsIn book) S d x ∙ omega (arith, least-ge p 1 (S - 1), least-le p 1 (S - 1) 1 (omega arith) one)
+
 -- Rule 5, d deep, with the node's entry.
 module _ (words : List (List ℕ)) (S d entry by : ℕ) (e : by ≡ entry) (closing : Option ℕ) where
   pub shift-nothing : 1 ≤ entry → closing ≡ none → by ≡ max entry (byteShift words S d closing)
   shift-nothing h z = rw z (omega arith)
+
+  pub shift-deep : 1 ≤ entry → (x : ℕ) → closing ≡ some x → byteShift words S d (some x) ≡ 1 → by ≡ max entry (byteShift words S d closing)
+  shift-deep h x z one = rw (z, one) (omega arith)
 
   pub shift-byte : (x : ℕ) → closing ≡ some x → (on : ℕ) → on ≡ byteShift words S d (some x) → (r : ℕ) → r ≡ max by on
       → r ≡ max entry (byteShift words S d closing)

@@ -1,13 +1,16 @@
 -- The loop of all rounds: the buffers hold the hits found so far, and the caches are right.
 use Prim.Native.Nat.{ℕ, zero, suc, _+_, _^_, _≤_, _<_}
 use native.Mathlib.Omega.{arith}
-use mathlib.Core.Path.{_≡_, refl, ap, sym, _∙_}
+use mathlib.Core.Path.{_≡_, refl, ap, sym, subst, _∙_}
+use mathlib.Core.Bool.{false}
 use mathlib.Core.List.{List, [], _∷_, _++_, map, map-append}
 use lib.ListN.{length, take, length-map}
 use Rattle.book.specs.Book.{maxImage, maxBody}
 use Rattle.rules.specs.Lists.{over}
 use Rattle.whole.specs.Image.{room, hitsOf, fetchesOf, sparesOf, noted}
+use Rattle.image.specs.declared.runs.Runs.{Runs}
 use Rattle.image.specs.Spans.{inUse}
+use Rattle.image.specs.Runs.{Powers, Followed}
 use Rattle.image.specs.Rule5.{tokensOf}
 use Rattle.image.specs.Walk.{notes}
 use Rattle.image.specs.Sweeping.{Given, Standing, Stands, Known, Caches, Begun, Skimmable, onAt, Leads}
@@ -35,6 +38,13 @@ module _ (part : ℕ × ℕ → ℕ) (r : ℕ) where
   part-done : (found all : List (ℕ × ℕ)) (l₀ l : List ℕ) → r ≤ length l₀ → found ≡ all → l ≡ notes r 0 (map part found) l₀ → l ≡ noted part r all l₀
   part-done found all l₀ l h e p =
       p ∙ notes-over r (map part found) l₀ h ∙ ap (λ xs. over xs l₀) (take-part r found ∙ ap (λ f. map part (take r f)) e)
+
+-- At the start no run was met.
+pub followed-none : {label token first next image power upto numbers : List ℕ} {count : ℕ} {r : Runs} → Powers label token first next count 0 0 false power upto numbers
+    → r ≡ record { from = 0; till = 0; byte = 0; known = 0; ended = false } → Followed label token first next count image r power upto numbers
+followed-none {label} {token} {first} {next} {image} {power} {upto} {numbers} {count} p e =
+    subst (λ r. Followed label token first next count image r power upto numbers) (sym e)
+    (record { order = omega arith; equal = λ i h l. absurd (omega arith); byte = λ h. absurd (omega arith); powers = p })
 
 -- These hits are found; the buffers hold as many as there is room for.
 pub record Rounding (book image : List ℕ) (shortest : ℕ) (ends₀ tokens₀ ends tokens bytes skip pairs : List ℕ) (at : Standing) : Type 0 where

@@ -9,7 +9,7 @@ use lib.Seq.{take-at}
 use Rattle.rules.specs.Lists.{least, over}
 use Rattle.rules.specs.Words.{hasReverse, wordsOf, allWords}
 use Rattle.rules.specs.Laws.Over.{over-length}
-use Rattle.rules.specs.Laws.Words.{words-both, words-own, turned-bytes, words-snoc}
+use Rattle.rules.specs.Laws.Words.{words-both, words-own, turned-bytes, words-append, words-snoc}
 use Rattle.agree.specs.Tests.{leastOf}
 use Rattle.agree.specs.Laws.Least.{least-none, least-one, least-words, least-bounds}
 use Rattle.book.specs.Book.{maxBody, wholeAt}
@@ -78,3 +78,12 @@ module _ (p : List ℕ → ℕ → Bool) {book : List ℕ} {S : ℕ} (a : Accept
     -- None is left.
     pub passed-all : length book ≤ at + 1 → best ≡ leastOf p (wordsIn book) S
     passed-all h = l .least-is ∙ ap (λ ts. leastOf p (allWords ts) S) (passing-all (l .passing) h)
+
+    -- The best is 1: the words of the records that are left do not lower it.
+    pub passed-one : best ≤ 1 → best ≡ leastOf p (wordsIn book) S
+    passed-one h =
+        let left = l .passing .rest in
+        let same : leastOf p (allWords left) best ≡ leastOf p (wordsIn book) S =
+        ap (leastOf p (allWords left)) (l .least-is) ∙ least-words p (allWords (l .done)) S (shortest-near a .0) (allWords left)
+        ∙ ap (λ ws. leastOf p ws S) (sym (words-append (l .done) left)) ∙ ap (λ ts. leastOf p (allWords ts) S) (l .passing .all) in
+        omega (arith, least-bounds p (allWords left) best passed-some)

@@ -17,10 +17,9 @@ use Rattle.image.specs.declared.walk.Stop.{Stop}
 use Rattle.image.specs.declared.walk.Stop.the-variants.{Byte, Nothing}
 use Rattle.image.specs.declared.walk.Arrival.{Arrival}
 use Rattle.image.specs.declared.turn.Outcome.{Outcome}
-use Rattle.image.specs.declared.spans.Spans.{Spans}
 use Rattle.image.specs.Rounds.{Reached, lowest}
 use Rattle.book.specs.Book.{maxImage}
-use Rattle.image.specs.Spans.{inUse, renewed, Fits}
+use Rattle.image.specs.Spans.{Spans, spansOf, inUse, renewed, Fits}
 use Rattle.image.specs.Rule5.{tokensOf, wordsIn, Accepted, closingOf, BySkip}
 use Rattle.image.specs.Sweeping.{Standing, Known, lowestOf, Learns, endAt, shiftAt, ByPair, Sees, Ended}
 use Rattle.image.specs.Laws.Roots.{first-shut, down-closes}
@@ -28,10 +27,6 @@ use Rattle.image.specs.Laws.Spans.{none-renewed, none-loose, loose-upto}
 use Rattle.image.specs.Laws.RoundByRound.{depths, matches, raised, renewed-few, stands-fit, looks-small}
 
 -- The leftmost place.
-pub lowest-upto : (b depth : ℕ) (stop : Stop) → lowestOf b depth stop ≤ b
-lowest-upto b depth Nothing = omega arith
-lowest-upto b depth (Byte x) = omega arith
-
 lowest-same : {E : Type 0} (b depth : ℕ) (stop : Stop) (r : Reached E) → depth ≡ r .depth → closingOf stop ≡ r .closing
     → lowestOf b depth stop ≡ lowest b r
 lowest-same b depth Nothing r e c = cc
@@ -148,6 +143,10 @@ pub record Turned (book image : List ℕ) (at after : Standing) (hits : ℕ) : T
   pub spared : let low = lowest (at .boundary) (endAt book image (at .boundary)) in
       low + loose (at .boundary) low (inUse (at .spans)) + after .spared ≡ at .boundary + at .spared
   pub counted : after .hits ≡ hits
+
+pub spans-as : {lefts rights lefts′ rights′ : List ℕ} {used used′ : ℕ} → lefts ≡ lefts′ → rights ≡ rights′ → used ≡ used′
+    → spansOf lefts rights used ≡ spansOf lefts′ rights′ used′
+spans-as p q o = cc
 
 pub turned-as : {book image : List ℕ} {at : Standing} {b hits f g m n : ℕ} {s t : Spans} → s ≡ t → f ≡ g → m ≡ n
     → Turned book image at (record { boundary = b; spans = t; fetched = g; spared = n; hits = hits }) hits

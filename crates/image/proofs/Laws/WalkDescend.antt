@@ -19,7 +19,7 @@ use Rattle.trie.specs.declared.Child.the-variants.{At, Absent}
 use Rattle.image.specs.declared.walk.Stop.the-variants.{Byte, Nothing}
 use Rattle.image.specs.declared.walk.Arrival.{Arrival}
 use Rattle.image.specs.Rounds.{meeting, down, reached}
-use Rattle.image.specs.Walk.{treeIn, Walkable, newest, stopOf, arrivalOf}
+use Rattle.image.specs.Walk.{treeIn, Walkable, newest, Descending, stopOf, arrivalOf, Arrived}
 use Rattle.image.specs.Laws.Roots.{down-deeper}
 use Rattle.image.proofs.Laws.WalkChildren.{child-in, child-below, root-shut, root-child}
 use Rattle.image.proofs.Laws.Walk.{ended, down-stop, down-shut, down-on}
@@ -50,24 +50,15 @@ pub meeting-few : (m : List ℕ) (i : ℕ) → length (meeting m i) ≤ length m
 meeting-few m zero = omega arith
 meeting-few m (suc i) = omega arith
 
-pub record Descending (label token first next image kept : List ℕ) (count b node depth met : ℕ) : Type 0 where
-  pub held : node < count
-  pub upto : depth ≤ b
-  pub few : met ≤ depth
-  pub deep : depth ≤ reached (treeIn label token first next count) image b .depth
-  pub rest : down (treeIn label token first next count) image b (suc (b - depth)) node depth (newest kept met)
-      ≡ reached (treeIn label token first next count) image b
-
 module _ {label token first next : List ℕ} {count : ℕ} (t : Walkable label token first next count) (image : List ℕ) (b : ℕ) where
   abbrev tree : Tree ℕ
   tree = treeIn label token first next count
 
-  -- To arrive is to answer where the way ends and to have kept the tokens on it.
-  abbrev pub Arrived : List ℕ → Arrival → Type 0
-  Arrived kept r = (r ≡ arrivalOf (reached tree image b)) × ((newest kept (r .met) ≡ reached tree image b .tokens) × (r .met ≤ r .depth))
+  abbrev arrived : List ℕ → Arrival → Type 0
+  arrived = Arrived label token first next count image b
 
   -- a way that goes on from here
-  begins : (fuel w d m : ℕ) (kept l : List ℕ) → w < count → d ≤ b → m ≤ d → fuel ≡ suc (b - d) → newest kept m ≡ l
+  pub begins : (fuel w d m : ℕ) (kept l : List ℕ) → w < count → d ≤ b → m ≤ d → fuel ≡ suc (b - d) → newest kept m ≡ l
       → down tree image b fuel w d l ≡ reached tree image b → Descending label token first next image kept count b w d m
   begins fuel w d m kept l h u f z q e =
       let rest : down tree image b (suc (b - d)) w d (newest kept m) ≡ reached tree image b = rw (q, ← z) e in
@@ -88,7 +79,7 @@ module _ {label token first next : List ℕ} {count : ℕ} (t : Walkable label t
     starts : (tree .leaf 0 || eqb 0 b) ≡ false
     starts = cc (t .rooted, ne-eqb 0 b (λ e. omega arith))
 
-    pub descend-none : w ≡ 0 → (kept : List ℕ) → Arrived kept (record { node = 0; depth = 0; stop = Byte x; met = 0 })
+    pub descend-none : w ≡ 0 → (kept : List ℕ) → arrived kept (record { node = 0; depth = 0; stop = Byte x; met = 0 })
     descend-none e kept =
         let is : down tree image b (suc b) 0 0 [] ≡ ended 0 0 (some x) [] =
         down-shut tree image b b 0 0 [] x starts place (root-shut label token first next count k x byte (sym to ∙ e)) in
@@ -114,20 +105,20 @@ module _ {label token first next : List ℕ} {count : ℕ} (t : Walkable label t
 
   -- A turn: the node has children, and bytes are left.
   module _ {kept : List ℕ} {node depth m : ℕ} (l : Descending label token first next image kept count b node depth m) where
-    arrives : (s : Option ℕ) → down tree image b (suc (b - depth)) node depth (newest kept m) ≡ ended node depth s (newest kept m)
-        → Arrived kept (record { node = node; depth = depth; stop = stopOf s; met = m })
+    pub arrives : (s : Option ℕ) → down tree image b (suc (b - depth)) node depth (newest kept m) ≡ ended node depth s (newest kept m)
+        → arrived kept (record { node = node; depth = depth; stop = stopOf s; met = m })
     arrives s e =
         let is = sym e ∙ l .rest in (
           ap (λ n. record { node = node; depth = depth; stop = stopOf s; met = n }) (sym (newest-length kept m)) ∙ ap arrivalOf is,
           (ap (λ r. r .tokens) is, l .few),
         )
 
-    pub descend-done : (tree .leaf node || eqb depth b) ≡ true → Arrived kept (record { node = node; depth = depth; stop = Nothing; met = m })
+    pub descend-done : (tree .leaf node || eqb depth b) ≡ true → arrived kept (record { node = node; depth = depth; stop = Nothing; met = m })
     descend-done h = arrives none (down-stop tree image b (b - depth) node depth (newest kept m) h)
 
     module _ (on : (tree .leaf node || eqb depth b) ≡ false) (x : ℕ) (is : x ≡ getD image (b - 1 - depth) 0)
         (k : Child) (found : childOf k ≡ childBy (treeOnly [] label [] first next) count node x) where
-      pub descend-shut : k ≡ Absent → Arrived kept (record { node = node; depth = depth; stop = Byte x; met = m })
+      pub descend-shut : k ≡ Absent → arrived kept (record { node = node; depth = depth; stop = Byte x; met = m })
       descend-shut e =
           arrives (some x) (down-shut tree image b (b - depth) node depth (newest kept m) x on is (child-in label token first next count node x k Absent found e))
 

@@ -9,9 +9,8 @@ use Rattle.rules.specs.Words.{allWords}
 use Rattle.rules.specs.Tokens.{ofTokens, shiftOf, shortestOf}
 use Rattle.rules.specs.Laws.Limit.Count.{loose}
 use Rattle.book.specs.Laws.Accepted.{accepted-fit, accepted-some}
-use Rattle.image.specs.declared.spans.Spans.{Spans}
 use Rattle.image.specs.Rounds.{Reached, reached, met, lowest}
-use Rattle.image.specs.Spans.{inUse, renewed}
+use Rattle.image.specs.Spans.{Spans, inUse, renewed}
 use Rattle.image.specs.Rule5.{tokensOf, BySkip}
 use Rattle.image.specs.Sweeping.{Standing, Stands, Seen, onAt}
 use Rattle.image.specs.Laws.Roots.{down-local, first-ends}

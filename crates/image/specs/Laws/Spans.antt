@@ -13,7 +13,7 @@ use Rattle.rules.specs.Laws.Remember.{Lies}
 use Rattle.rules.specs.Laws.Image.{stretches-append, stretches-length, stretches-select, stretches-cut}
 use Rattle.rules.specs.Laws.Limit.Count.{loose}
 use Rattle.rules.specs.Laws.Limit.Span.{four-few, Spans, short}
-use Rattle.image.specs.declared.spans.Spans as declared
+use Rattle.image.specs.Spans as image
 use Rattle.image.specs.Spans.{Places, placesOf, inUse, renewed}
 
 module _ {E : Type 0} where
@@ -57,7 +57,7 @@ pub none-kept : (from b next : ℕ) → from ≤ b → b < next → b - from < 4
 none-kept from b next i j h = cc (lt-leb (4 * (next - b)) (b - from) h)
 
 -- No stretch is in use.
-module _ (f : declared.Spans) (none : f .used ≡ 0) where
+module _ (f : image.Spans) (none : f .used ≡ 0) where
   bare-use : inUse f ≡ []
   bare-use = rw none
 

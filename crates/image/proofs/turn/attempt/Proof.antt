@@ -9,7 +9,7 @@ use Rattle.image.proofs.turn.attempt.Statement.{statement}
 use Rattle.image.proofs.turn.attempt.Tie as tie
 
 abbrev start : tie.After-descend → tie.Start
-start d = d .before .before .before .before .before .before .before .before .before .before .before .before .before .before .before .before
+start d = d .before .before .before .before .before .before .before .before .before .before .before .before .before .before .before .before .before .before .before
 
 -- where the round ended, from its shift; and this, from its hits
 abbrev ended-at : tie.After-shift → tie.After-descend
@@ -24,21 +24,21 @@ arrives d =
     let p = start d .pre in round-arrives (p .0) (begun-known (p .1 .0)) (p .1 .0 .inside) (d .descend .result) (d .descend .ensures .0)
 
 descend-requires : tie.Need-descend-requires
-descend-requires c κs = let p = c .before .before .before .before .before .before .before .before .before .before .before .before .before .before .before .pre in
+descend-requires c κs = let p = c .before .before .before .before .before .before .before .before .before .before .before .before .before .before .before .before .before .before .pre in
     let k = begun-known (p .1 .0) in
-    (round-place (p .0) k (p .1 .0 .inside), (tables-walk (p .0), (p .1 .1 .0, omega (arith, p .1 .1 .1 .0, round-room (p .0) k (p .1 .0 .inside)))))
+    (round-place (p .0) k (p .1 .0 .inside), (tables-walk (p .0), (p .1 .1 .0, (p .1 .1 .1 .0, omega (arith, p .1 .1 .1 .1 .0, round-room (p .0) k (p .1 .0 .inside))))))
 
 shift-requires : tie.Need-shift-requires
 shift-requires c κs =
     let d = c .before .before .before in
     let a = arrives d in
-    (a .read, ((a .held, arrives-some a), start d .pre .1 .1 .1 .1 .by-byte))
+    (a .read, ((a .held, arrives-some a), start d .pre .1 .1 .1 .1 .1 .by-byte))
 
 near : (h : tie.After-shift) → h .shift .result ≤ 1024
 near h = by-near (arrives (ended-at h)) (h .shift .result) (h .shift .ensures .0)
 
 learn-requires : tie.Need-learn-requires
-learn-requires c κs = let h = c .before .before .before in (near h, start (ended-at h) .pre .1 .1 .1 .1 .by-skip .size)
+learn-requires c κs = let h = c .before .before .before in (near h, start (ended-at h) .pre .1 .1 .1 .1 .1 .by-skip .size)
 
 positive : (d : tie.After-descend) → 1 ≤ start d .args .b
 positive d = begun-known (start d .pre .1 .0) .stands .positive
@@ -50,7 +50,7 @@ shared-slice-read-learn-pair : tie.Need-shared-slice-read-learn-pair
 shared-slice-read-learn-pair c = let d = c .before .before .before .before .before .before .before .before .before .before .before .before in omega (arith, positive d, start d .pre .1 .0 .inside)
 
 learn-pair-requires : tie.Need-learn-pair-requires
-learn-pair-requires c κs = let h = c .before .before .before .before .before .before .before .before in (near h, start (ended-at h) .pre .1 .1 .1 .1 .by-pair .size)
+learn-pair-requires c κs = let h = c .before .before .before .before .before .before .before .before in (near h, start (ended-at h) .pre .1 .1 .1 .1 .1 .by-pair .size)
 
 lowest-requires : tie.Need-lowest-requires
 lowest-requires c κs = arrives-deep (arrives (c .before .before .before .before .before .before .before .before .before .before .before .before .before .before .before))
@@ -61,7 +61,7 @@ mark-requires c κs = let d = c .before .before .before .before .before .before 
     let k = begun-known (p .1 .0) in
     let n = round-numbers (p .0) k (p .1 .0 .inside) in
     let deep = ap (λ r. r .depth) (d .descend .ensures .0) in
-    (n .0, n .1, omega (arith, d .descend .ensures .1 .1, deep, round-room (p .0) k (p .1 .0 .inside), p .1 .1 .1 .0, c .before .before .before .before .before .before .before .before .before .before .before .before .before .before .before .before .before .before .kept .given))
+    (n .0, n .1, omega (arith, d .descend .ensures .1 .1, deep, round-room (p .0) k (p .1 .0 .inside), p .1 .1 .1 .1 .0, c .before .before .before .before .before .before .before .before .before .before .before .before .before .before .before .before .before .before .kept .given))
 
 same-length : tie.Need-same-length
 same-length c = search needs
@@ -88,13 +88,13 @@ returns c =
     let d = ended-at h in
     let s = start d in
     let a = arrives d in
-    let k = s .pre .1 .1 .1 .1 in
+    let k = s .pre .1 .1 .1 .1 .1 in
     let by = h .shift .result in
     let e = h .shift .ensures .0 in (
       ended a by e (m .before .before .before .before .lowest .result) (m .mark .result) (m .before .before .before .before .lowest .ensures),
       (
         round-met (s .pre .0) (begun-known (s .pre .1 .0)) (s .pre .1 .0 .inside) (d .descend .result) (d .descend .ensures .0)
-            (d .descend .last .1 .1 .1 .1 .1 .1 .1 .1 .0) (d .descend .ensures .1 .0) (m .mark .ensures),
+            (d .descend .last .1 .1 .1 .1 .1 .1 .1 .1 .1 .1 .1 .1 .0) (d .descend .ensures .1 .0) (m .mark .ensures),
         record {
           by-byte = h .shift .ensures .1;
           by-skip = m .before .before .before .before .before .before .before .before .before .before .before .before .learn .ensures (s .args .book .now) (s .args .shortest) (learns a by e) (k .by-skip);
