@@ -1,5 +1,5 @@
-"""The proved calls, from Python: the archives of the crates `probe` and `gateway` as shared objects. Wants gcc, and in target/staticlib
-libprobe.a (`rt staticlib probe`) and, for the sweep of a whole image, libgateway.a (`rt staticlib gateway`)."""
+"""The proved calls, from Python: the archives of the crates `probe` and `gateway` as shared objects. Wants gcc, and what `rt lib`
+writes in their folders: crates/probe/out/libprobe.a and, for the sweep of a whole image, crates/gateway/out/libgateway.a."""
 import array
 import ctypes
 import functools
@@ -8,7 +8,7 @@ import subprocess
 import sys
 import tempfile
 
-ARCHIVES = pathlib.Path(__file__).resolve().parent.parent / "target" / "staticlib"
+CRATES = pathlib.Path(__file__).resolve().parent.parent / "crates"
 GUARD = 4  # numbers before and behind what is lent
 AROUND = 0xA5  # what they are
 BYTES, ENTRIES, HITS, NUMBERS = "B", "H", "I", "Q"
@@ -47,9 +47,9 @@ class Byte(int):
 
 @functools.cache
 def load(crate):
-    archive = ARCHIVES / f"lib{crate}.a"
+    archive = CRATES / crate / "out" / f"lib{crate}.a"
     if not archive.is_file():
-        sys.exit(f"{archive} is not there; `rt staticlib {crate}` makes it")
+        sys.exit(f"{archive} is not there; `rt lib` in crates/{crate} makes it")
     with tempfile.TemporaryDirectory() as folder:
         shared = pathlib.Path(folder, f"lib{crate}.so")
         subprocess.run(["gcc", "-shared", "-o", shared, "-Wl,--whole-archive", archive, "-Wl,--no-whole-archive"], check=True)

@@ -1,8 +1,8 @@
 #!/usr/bin/env python3
 """Runs the program `sweep` in folders of its own and compares what it prints, line by line, with a plain search, the bytes fetched and
 spared with the reading rules, round by round, and refusals with tables.py; also where reads give few bytes at a time, and where one fails.
-On small images the search and the rounds are compared with the steps of steps.py. Fails at the first difference. Wants target/bin/sweep
-(`rt check sweep`) and gcc."""
+On small images the search and the rounds are compared with the steps of steps.py. Fails at the first difference. Wants crates/sweep/out/sweep
+(`rt run` in crates/sweep) and gcc."""
 import errno
 import os
 import pathlib
@@ -16,7 +16,7 @@ import books
 import steps
 import tables
 
-PROGRAM = pathlib.Path(__file__).resolve().parent.parent / "target" / "bin" / "sweep"
+PROGRAM = pathlib.Path(__file__).resolve().parent.parent / "crates" / "sweep" / "out" / "sweep"
 IMAGE = 65536
 HITS = 262144  # the program lists the hits by parts of the image when there are more
 PART = 3855  # the most bytes that a part has
@@ -369,7 +369,7 @@ def some(rng):
 
 def main():
     if not PROGRAM.is_file():
-        fail("no program", PROGRAM, "is not there; `rt check sweep` makes it")
+        fail("no program", PROGRAM, "is not there; `rt run` in crates/sweep makes it")
     count = 0
     for cases in (missing(), limits(), some(random.Random(3)), inside(), many_hits(), at_edges()):
         for case in cases:

@@ -1,5 +1,3 @@
--- Rule 5 for one word: its tests and what the code answers, samples, and the law that makes a search word by word enough.
+-- Rule 5 for one word: its tests and what the code answers.
 pub mod Tests
 pub mod Answers
-pub mod Examples
-pub mod Laws

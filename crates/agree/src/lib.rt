@@ -1,4 +1,6 @@
 // Rule 5 for one word: where it stops fitting what is known of the image, and the smallest way to the right by which it fits a closing byte.
+#![tactic(auto)]
+
 ghost use Rattle.std.specs.Prelude.{◌-◌, ◌≡◌};
 ghost use Rattle.rules.specs.Lists.{least};
 ghost use Rattle.rules.specs.Tokens.{mismatch, fits};
@@ -7,7 +9,7 @@ ghost use Rattle.agree.specs.Answers.{tested_of};
 
 // What the test of a word against known bytes answers: it fits, or it differs at the place with so many known bytes right of it, and at none
 // of these.
-#[derive(Drop)]
+#[derive(Clone, Copy)]
 pub enum Tested {
     Fits,
     Differs(usize),

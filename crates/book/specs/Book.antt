@@ -176,3 +176,7 @@ bodies_from book (suc fuel) at =
 -- Those of a book from its start on, be it accepted or not. A record takes a byte at least, so its length is fuel enough.
 abbrev pub bodies_in : List ℕ → List (List ℕ)
 bodies_in book = bodies_from book (length book) 0
+
+-- What the reader needs of a book.
+abbrev pub needed : ℕ
+needed = max_tokens + max_bodies + 1 + max_body

@@ -1,4 +1,6 @@
 // The revocation book: its limits, how it is read, what is refused, and where its tokens stand.
+#![tactic(auto)]
+
 mod filter;
 mod records;
 mod repeats;
@@ -17,7 +19,7 @@ use repeats::repeated;
 use words::{is_word, weight};
 
 // The limits belong to the book itself.
-#[derive(Drop)]
+#[derive(Clone, Copy)]
 pub struct Book;
 
 impl Book {
@@ -31,7 +33,7 @@ impl Book {
 }
 
 // Document 01's refusals 1 to 6, each with its value.
-#[derive(Drop)]
+#[derive(Clone, Copy)]
 pub enum Refusal {
     Unfinished(usize),
     UnknownKind(usize),
@@ -42,7 +44,7 @@ pub enum Refusal {
 }
 
 // A refusal as document 01's table has it: its number and the value that is returned; both 0 where there is none.
-#[derive(Drop)]
+#[derive(Clone, Copy)]
 pub struct Numbered {
     pub number: usize,
     pub value: usize,
@@ -82,7 +84,7 @@ impl Refusal {
 }
 
 // How many tokens there are, all body bytes (those of all words), S and D.
-#[derive(Drop)]
+#[derive(Clone, Copy)]
 pub struct Totals {
     pub tokens: usize,
     pub bodies: usize,
@@ -90,14 +92,14 @@ pub struct Totals {
     pub longest: usize,
 }
 
-#[derive(Drop)]
+#[derive(Clone, Copy)]
 pub enum Reading {
     Accepted(Totals),
     Refused(Refusal),
 }
 
 // Place and length of a token's body; or the token is not in the book; or the book's refusal.
-#[derive(Drop)]
+#[derive(Clone, Copy)]
 pub enum Place {
     Found(usize, usize),
     Missing,

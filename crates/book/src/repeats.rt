@@ -4,7 +4,7 @@ ghost use Rattle.std.specs.Prelude.{◌≡◌, List, [], ◌∷◌, ◌++◌, �
 ghost use Rattle.rules.specs.Lists.{any_of};
 ghost use Rattle.rules.specs.Words.{is_word};
 ghost use Rattle.book.specs.Filter.{Covers};
-ghost use Rattle.book.specs.Laws.Records.{Upto};
+ghost use Rattle.book.specs.Records.{Upto};
 
 use crate::contains;
 use crate::filter::{CELLS, hash, mark};

@@ -1,4 +1,6 @@
 // Where a token of the book stops fitting an image, for who tunes a book.
+#![tactic(auto)]
+
 ghost use Rattle.std.specs.Prelude.{◌≤◌, ◌≡◌, length};
 ghost use Rattle.book.specs.Book.{accepted, refusal_in, read_book};
 ghost use Rattle.fitting.specs.Fitting.{fit_at, fit_in};
@@ -10,7 +12,7 @@ use book::{Book, Numbered, Place, Refusal};
 // What is answered of a token with its right edge at an end: it fits; the place farthest right at which it differs from the image; it is cut
 // off, as it begins left of the image and agrees with all that it lies over. Or the book's refusal; 8 with the limit; 16, no token has the
 // number; 17, the end lies beyond the image.
-#[derive(Drop)]
+#[derive(Clone, Copy)]
 pub enum Fitting {
     Fits,
     Differs(usize),

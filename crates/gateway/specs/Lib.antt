@@ -1,3 +1,2 @@
--- Answers as numbers, for C, and samples of them.
+-- Answers as numbers, for C.
 pub mod Numbers
-pub mod Examples

@@ -1,4 +1,6 @@
 // What the gateway's C calls: building and the sweep of a whole image, with numbers for the answers.
+#![tactic(auto)]
+
 mod sweeps;
 
 ghost use Rattle.std.specs.Prelude.{◌≡◌};
@@ -11,7 +13,7 @@ use trie::Building;
 
 // The sizes of built tables, or a refusal's number and value; 0 for what there is not.
 #[repr(C)]
-#[derive(Drop)]
+#[derive(Clone, Copy)]
 pub struct Built {
     pub refusal: u64,
     pub value: u64,
@@ -22,7 +24,7 @@ pub struct Built {
 
 // The numbers of hits, of bytes fetched and of bytes spared, or a refusal's number and value; 0 for what there is not.
 #[repr(C)]
-#[derive(Drop)]
+#[derive(Clone, Copy)]
 pub struct Swept {
     pub refusal: u64,
     pub value: u64,

@@ -1,4 +1,16 @@
+-- What holds of rounds in an image at hand, of the stretches by their places, and of the buffers that take the hits.
+-- For the functions' proofs:
 -- Each module serves that of src/ whose name it begins with; `SweepImage` serves `lib.rt`.
+pub mod Loose
+pub mod Events
+pub mod Places
+pub mod Notes
+pub mod Down
+pub mod Round
+pub mod Roots
+pub mod Tables
+pub mod RoundByRound
+pub mod ShortRounds
 pub mod Spans
 pub mod SpansLoose
 pub mod SpansHold

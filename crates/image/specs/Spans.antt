@@ -1,10 +1,8 @@
 -- Remembered stretches in an image at hand: their bytes are the image's, so only their places are kept.
 use Rattle.std.specs.Prelude.{ℕ, ◌≤◌, List, [], ◌∷◌, ◌++◌, map, take}
-use Rattle.rules.specs.Lists.{select}
+use Rattle.rules.specs.Lists.{select, All}
 use Rattle.rules.specs.Rules.{Stretch, left_over, cut, kept}
-use Rattle.rules.specs.Laws.All.{All}
-use Rattle.rules.specs.Laws.Remember.{Lies}
-use Rattle.rules.specs.Laws.Image.{stretches_of}
+use Rattle.rules.specs.Stretches.{Lies, stretches_of}
 use Rattle.image.specs.declared.spans.Span.{Span}
 
 -- The stretches by rising place, and how many of them are in use.

@@ -5,18 +5,17 @@ use Rattle.rules.specs.Lists.{any_of}
 use Rattle.rules.specs.Rules.{Stretch}
 use Rattle.rules.specs.Tokens.{ends, of_tokens, shift_of, shortest_of, longest_of}
 use Rattle.book.specs.Book.{read_book, accepted, max_image, max_body}
-use Rattle.book.specs.Laws.Accepted.{accepted-setting}
+use Rattle.book.proofs.Laws.Accepted.{accepted-setting}
 use Rattle.trie.specs.Answers.{tables}
-use Rattle.tables.specs.Laws.Represents.{Represents}
 use Rattle.image.specs.declared.skim.Skipped.{Skipped}
 use Rattle.image.specs.declared.turn.Outcome.{Outcome}
 use Rattle.image.specs.declared.walk.Stop.{Stop}
 use Rattle.image.specs.declared.walk.Stop.TheVariants.{Byte, Nothing}
 use Rattle.whole.specs.Image.{hits_of, fetches_of, spares_of}
-use Rattle.image.specs.Rounds.{Reached, reached, met, lowest}
+use Rattle.image.specs.Rounds.{Reached, reached, met, lowest, Starts, fetches_from, spares_from, hits_from}
 use Rattle.image.specs.Spans.{Spans, places_of, in_use}
 use Rattle.image.specs.Rule5.{tokens_of, words_in, Accepted, closing_of, ByByte, BySkip}
-use Rattle.image.specs.Laws.Round.{Starts, fetches_from, spares_from, hits_from}
+use Rattle.tables.specs.Represents.{Represents}
 
 -- An accepted book, tables that represent its tokens, and an image within its limit.
 pub record Given (book image label token first next shift : List ℕ) (count shortest : ℕ) : Type 0 where

@@ -1,4 +1,6 @@
 // The sweep of a whole image at hand.
+#![tactic(auto)]
+
 mod caches;
 mod rounds;
 mod rule5;
@@ -20,7 +22,7 @@ use trie::Building;
 use trie::entries::{least, shortest};
 
 // How many hits there are, how many bytes were fetched, and how many taken from stretches instead (document 02: spared).
-#[derive(Drop)]
+#[derive(Clone, Copy)]
 pub struct Found {
     pub hits: usize,
     pub fetched: usize,
@@ -28,7 +30,7 @@ pub struct Found {
 }
 
 // What the sweep answers: all it found; the book's refusal; 7 with the length wanted; 8 with the limit; 12 with all it found.
-#[derive(Drop)]
+#[derive(Clone, Copy)]
 pub enum Swept {
     Whole(Found),
     Unread(Refusal),

@@ -14,7 +14,7 @@ const NEAR: usize = 8;
 
 // A run of equal bytes that ends at a round's boundary, from place `from` up to `till`; of its byte as many powers as are known, x, xx and so on,
 // and whether the tree has no more.
-#[derive(Drop)]
+#[derive(Clone, Copy)]
 pub struct Runs {
     pub from: usize,
     pub till: usize,

@@ -6,7 +6,7 @@ ghost use Rattle.image.specs.Sweeping.{Cached, Four, Paired, Skimmable, Skimmed}
 use trie::entries::wide;
 
 // How far such rounds lead, and how many bytes they looked at.
-#[derive(Drop)]
+#[derive(Clone, Copy)]
 pub struct Skipped {
     pub boundary: usize,
     pub looks: usize,

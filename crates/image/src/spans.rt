@@ -1,12 +1,11 @@
 // Remembered stretches, by their places alone: the image at hand has their bytes.
 ghost use Rattle.std.specs.Prelude.{◌^◌, ◌≤◌, ◌<◌, ◌≡◌, ◌&&◌, ltb, length};
 ghost use Rattle.rules.specs.Rules.{left_over, cut, kept};
-ghost use Rattle.rules.specs.Laws.Limit.Count.{loose};
-ghost use Rattle.rules.specs.Laws.Remember.{Lies, staying};
+ghost use Rattle.rules.specs.Stretches.{loose, Lies, staying};
 ghost use Rattle.image.specs.Spans.{spans_of, placed, in_use, renewed, Fits};
 
 // A stretch: the places from left up to right, right not included.
-#[derive(Drop)]
+#[derive(Clone, Copy)]
 pub struct Span {
     pub left: usize,
     pub right: usize,

@@ -64,7 +64,7 @@ pub fn forgets(used: usize, depth: usize, by: usize) -> bool
 }
 
 // What a round came to: how deep it went, the leftmost place it looked at, its shift, and how many hits there are then.
-#[derive(Drop)]
+#[derive(Clone, Copy)]
 pub struct Outcome {
     pub depth: usize,
     pub low: usize,

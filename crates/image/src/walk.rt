@@ -12,14 +12,14 @@ use trie::Child;
 use trie::entries::{least, wide};
 
 // What ended a round: a byte that no child has, or nothing.
-#[derive(Drop)]
+#[derive(Clone, Copy)]
 pub enum Stop {
     Byte(u8),
     Nothing,
 }
 
 // Where a round ended, and how many tokens it met on its way.
-#[derive(Drop)]
+#[derive(Clone, Copy)]
 pub struct Arrival {
     pub node: usize,
     pub depth: usize,
@@ -28,7 +28,7 @@ pub struct Arrival {
 }
 
 // Where a way down has come to: a node, its depth, and how many tokens were met.
-#[derive(Drop)]
+#[derive(Clone, Copy)]
 pub struct Way {
     pub node: usize,
     pub depth: usize,

@@ -1,4 +1,6 @@
 // Two books as one: all tokens of the first, then those of the second that the first lacks.
+#![tactic(auto)]
+
 mod survey;
 mod write;
 
@@ -14,7 +16,7 @@ use write::write;
 
 // What merging answers: the length written; the first book's refusal; 13 with the number of the second book's; 5 with the record's place in
 // the second book; or 14 with the length that was wanted.
-#[derive(Drop)]
+#[derive(Clone, Copy)]
 pub enum Merging {
     Written(usize),
     Unread(Refusal),

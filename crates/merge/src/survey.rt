@@ -7,14 +7,14 @@ use book::words::weight;
 use book::{Book, Totals};
 
 // 5, with the record's place in the second book; or the length of the merged book.
-#[derive(Drop)]
+#[derive(Clone, Copy)]
 pub enum Fit {
     Over(usize),
     Needs(usize),
 }
 
 // For each token of the second book whether the first lacks it, up to where the limits are passed.
-#[derive(Drop)]
+#[derive(Clone, Copy)]
 pub struct Marked {
     pub marks: [bool; Book::TOKENS],
     pub fit: Fit,

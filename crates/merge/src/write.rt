@@ -16,7 +16,8 @@ pub fn write(first: &[u8], second: &[u8], marks: [bool; Book::TOKENS], out: &mut
     ensures { out.new ≡ over (book_of (merged (bodies_in first.now) (bodies_in second.now))) out.old }
 {
     let closing = first.len() - 1;
-    let mut to = bytes::copy(&first[..closing], out);
+    out[..closing].copy_from_slice(&first[..closing]);
+    let mut to = closing;
     let mut at = 0;
     let mut i = 0;
     loop {
@@ -41,5 +42,7 @@ fn put(part: &[u8], wanted: bool, out: &mut [u8], to: usize) -> usize
     if !wanted {
         return to;
     }
-    to + bytes::copy(part, &mut out[to..])
+    let end = to + part.len();
+    out[to..end].copy_from_slice(part);
+    end
 }

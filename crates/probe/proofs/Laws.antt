@@ -1,2 +1,2 @@
--- What the proofs of `states` share, and of the calls that are lent a state.
+-- What the proof of `states::lay` cites.
 pub mod States

@@ -1,4 +1,3 @@
--- Answers as numbers, the scan state as lent numbers, and samples of both.
+-- Answers as numbers, and the scan state as lent numbers.
 pub mod Numbers
 pub mod States
-pub mod Examples

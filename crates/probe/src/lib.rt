@@ -1,4 +1,6 @@
 // The calls for tests and measurements in C and Python: each with numbers for its answer.
+#![tactic(auto)]
+
 mod answers;
 mod states;
 
@@ -23,7 +25,7 @@ use scan::{Opening, Scan};
 
 // What a call answers: of which kind, and its numbers, 0 for those there are not. Kind 0 is a refusal, with its number and value.
 #[repr(C)]
-#[derive(Drop)]
+#[derive(Clone, Copy)]
 pub struct Told {
     pub kind: usize,
     pub numbers: [usize; 4],

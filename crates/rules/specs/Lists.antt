@@ -1,4 +1,5 @@
--- Tests and searches on lists of bytes, and one list laid over another, in which the other definitions are written.
+-- Tests and searches on lists of bytes, what holds of each element, and one list laid over another, in which the other definitions are
+-- written.
 use Rattle.std.specs.Prelude.{ℕ, zero, suc, ◌+◌, Bool, true, false, ◌&&◌, ◌||◌, List, [], ◌∷◌, ◌++◌, eqb, length, drop}
 use Rattle.std.proofs.Math.Option.{Option, some, none}
 
@@ -47,3 +48,7 @@ number_where p i (t ∷ ts) = elim (p t) [ true ↦ i | false ↦ number_where p
 -- l with the entries of m written from its front; what follows them stays
 abbrev pub over : List ℕ → List ℕ → List ℕ
 over m l = m ++ drop (length m) l
+
+abbrev pub All {ℓ} : {A : Type ℓ} → (A → Type 0) → List A → Type 0
+All P [] = Unit {0}
+All P (a ∷ l) = P a × All P l

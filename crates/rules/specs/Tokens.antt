@@ -1,5 +1,5 @@
 -- The rules' tree straight from the words of the tokens: a node is an ending, as its bytes from left to right. No table stands here.
-use Rattle.std.specs.Prelude.{ℕ, ◌+◌, ◌-◌, min, max, Bool, true, false, ◌&&◌, ◌||◌, not, List, [], ◌∷◌, leb, ltb, eqb, length, get_or, drop}
+use Rattle.std.specs.Prelude.{ℕ, ◌+◌, ◌-◌, min, max, Bool, true, false, ◌&&◌, ◌||◌, not, List, [], ◌∷◌, leb, ltb, eqb, length, get_or, drop, take}
 use Rattle.std.proofs.Math.Option.{Option, some, none}
 use Rattle.rules.specs.Lists.{any_of, first_below, is_none, least, same}
 use Rattle.rules.specs.Words.{all_words, number_of}
@@ -81,3 +81,7 @@ module _ (words : List (List ℕ)) where
 -- The tree of all words of the tokens.
 abbrev pub of_tokens : List (List ℕ) → ℕ → Tree (List ℕ)
 of_tokens tokens = of_words (all_words tokens) (number_of tokens)
+
+-- A word without its last s bytes.
+abbrev pub shortened : List ℕ → ℕ → List ℕ
+shortened w s = take (length w - s) w

@@ -1,1 +1,3 @@
+#![tactic(auto)]
+
 // The reading rules: definitions and laws, no code.

@@ -1,4 +1,4 @@
--- The sweep by bytes: the scan state, starting, the calls that step it, and what they are to answer; samples; laws. And what the code
+-- The sweep by bytes: the scan state, starting, the calls that step it, and what they are to answer. And what the code
 -- in between asks of tables (Ways), shifts (Shifts) and remembered stretches (Memory), of the ranges (Ranges) and of a step (Steps); and
 -- its answers as the definitions have them (Results).
 pub mod State
@@ -9,9 +9,7 @@ pub mod Answers
 pub mod Ways
 pub mod Shifts
 pub mod Ranges
-pub mod Examples
-pub mod PacketExamples
-pub mod Laws
 pub mod Memory
 pub mod Steps
 pub mod Results
+pub mod Within

@@ -1,9 +1,8 @@
 -- What the code asks of remembered stretches, and what it finds there, over the tables that it climbs.
 use Rattle.std.specs.Prelude.{ℕ, ◌+◌, ◌^◌, ◌≤◌, ◌<◌, Bool, true, false, ◌&&◌, ◌≡◌, List, [], ◌∷◌, leb, ltb, length, set}
 use Rattle.std.proofs.Math.Option.{Option, some, none}
-use Rattle.rules.specs.Lists.{select}
+use Rattle.rules.specs.Lists.{select, All}
 use Rattle.rules.specs.Rules.{Stretch, kept, recall, ended}
-use Rattle.rules.specs.Laws.All.{All}
 use Rattle.tables.specs.Walks.{depth, of_tables}
 use Rattle.scan.specs.declared.Stretch.{Stretch as Slot}
 use Rattle.scan.specs.declared.stretches.Filled.{Filled}
@@ -13,7 +12,7 @@ use Rattle.scan.specs.declared.stretches.Recalled.{Recalled}
 use Rattle.scan.specs.declared.stretches.Recalled.TheVariants.{Byte, Nothing}
 use Rattle.scan.specs.State.{max_stretches, stretch_of, laid}
 use Rattle.scan.specs.Ways.{paths, Rises}
-use Rattle.scan.specs.Laws.Within.{Fits}
+use Rattle.scan.specs.Within.{Fits}
 
 -- What is remembered of a place.
 abbrev pub recalled_of : Recalled → Option ℕ

@@ -8,7 +8,7 @@ use Rattle.scan.specs.declared.Scan.{Scan}
 use Rattle.scan.specs.declared.steps.Move.{Move}
 use Rattle.scan.specs.declared.steps.Move.TheVariants.{Finished, Wants, End, Take}
 use Rattle.scan.specs.State.{config_of, tree_of}
-use Rattle.scan.specs.Laws.Kept.{Goes}
+use Rattle.scan.specs.Within.{Goes}
 
 -- A state to step from: no hit is left.
 pub record Stepping (t : Tables) (s : Scan) : Type 0 where

@@ -10,7 +10,7 @@ use crate::{Answer, Scan};
 use trie::{Tested, first_break};
 
 // Whether a step is refused.
-#[derive(Drop)]
+#[derive(Clone, Copy)]
 pub enum Judged {
     Admitted,
     Refused(Answer),

@@ -1,4 +1,5 @@
 // The sweep by bytes: the scan state, starting, and the three calls that step it.
+#![tactic(auto)]
 
 mod hits;
 mod judge;
@@ -24,7 +25,7 @@ use steps::{settle, supply_due};
 
 // A remembered stretch: the places from left up to right, right not included; its bytes are the ending of its node. A slot that
 // is not in use holds zeros.
-#[derive(Drop)]
+#[derive(Clone, Copy)]
 pub struct Stretch {
     pub left: usize,
     pub right: usize,
@@ -34,7 +35,7 @@ pub struct Stretch {
 // N, S, the number of nodes, the present round's boundary, node and depth, the remembered stretches, how many bytes were supplied so
 // far and how many taken from stretches instead (document 02: spared), whether a byte is due, and of the hits that are still to be answered
 // their end and the node of the next (both 0 for none).
-#[derive(Drop)]
+#[derive(Clone, Copy)]
 pub struct Scan {
     pub image: usize,
     pub shortest: usize,
@@ -51,7 +52,7 @@ pub struct Scan {
 }
 
 // Whether starting went well, or refusal 8 with its value.
-#[derive(Drop)]
+#[derive(Clone, Copy)]
 pub enum Opening {
     Ready,
     TooLong(usize),
@@ -75,14 +76,14 @@ impl Opening {
 }
 
 // The state to step from: where starting is refused, one that every step refuses.
-#[derive(Drop)]
+#[derive(Clone, Copy)]
 pub struct Started {
     pub state: Scan,
     pub opening: Opening,
 }
 
 // What a step answers: a place to fetch, a hit (where it ends, and its token), done, or refusal 9 with its value, 10, 11 or 15.
-#[derive(Drop)]
+#[derive(Clone, Copy)]
 pub enum Answer {
     Fetch(usize),
     Hit(usize, usize),
@@ -131,14 +132,14 @@ impl Answer {
 }
 
 // The next state, and what the step answers.
-#[derive(Drop)]
+#[derive(Clone, Copy)]
 pub struct Stepped {
     pub state: Scan,
     pub answer: Answer,
 }
 
 // The same of a packet, and how many of its bytes were used.
-#[derive(Drop)]
+#[derive(Clone, Copy)]
 pub struct Delivered {
     pub state: Scan,
     pub answer: Answer,

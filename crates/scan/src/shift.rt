@@ -14,7 +14,7 @@ use book::Book;
 use trie::entries::{greater, least, wide};
 
 // The byte that ended a round, if there was one.
-#[derive(Drop)]
+#[derive(Clone, Copy)]
 pub enum Closing {
     Byte(u8),
     Nothing,

@@ -10,7 +10,7 @@ use book::Book;
 use trie::entries::wide;
 
 // How far an ending is written: up to index n, and what is left is the ending of `at`.
-#[derive(Drop)]
+#[derive(Clone, Copy)]
 pub struct Spot {
     pub at: usize,
     pub n: usize,

@@ -9,7 +9,7 @@ ghost use Rattle.scan.specs.Calls.{counted, stepped, settle, enough, judged, sup
 ghost use Rattle.scan.specs.Shifts.{closing_of};
 ghost use Rattle.scan.specs.Results.{stepped_of};
 ghost use Rattle.scan.specs.Steps.{Stepping, Ending, Looking, Chosen};
-ghost use Rattle.scan.specs.Laws.Kept.{Goes};
+ghost use Rattle.scan.specs.Within.{Goes};
 
 use crate::ranges::{SPARED, SUPPLIED};
 use crate::shift::Closing;
@@ -18,7 +18,7 @@ use crate::{Answer, Scan, Stepped, hits, shift, stretches};
 use trie::Child;
 
 // What comes next: nothing, a place to fetch, the round's end, or a byte that is remembered.
-#[derive(Drop)]
+#[derive(Clone, Copy)]
 pub enum Move {
     Finished,
     Wants(usize),

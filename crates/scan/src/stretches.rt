@@ -2,8 +2,8 @@
 
 ghost use Rattle.std.specs.Prelude.{◌<◌, ◌≡◌, length};
 ghost use Rattle.rules.specs.Rules.{left_over, cut, kept};
-ghost use Rattle.rules.specs.Laws.All.{All};
-ghost use Rattle.rules.specs.Laws.Remember.{Lies, farther_of, stays, staying};
+ghost use Rattle.rules.specs.Lists.{All};
+ghost use Rattle.rules.specs.Stretches.{Lies, farther_of, stays, staying};
 ghost use Rattle.scan.specs.State.{stretch_of, in_use, used};
 ghost use Rattle.scan.specs.Ways.{Climbs};
 ghost use Rattle.scan.specs.Memory.{recalled_of, recall_by, Remembers, covers, holding, holder_of, put_in, sift_in, filled_with, Ends, remember_by};
@@ -11,7 +11,7 @@ ghost use Rattle.scan.specs.Memory.{recalled_of, recall_by, Remembers, covers, h
 use crate::{Stretch, spell};
 
 // What is remembered of a place.
-#[derive(Drop)]
+#[derive(Clone, Copy)]
 pub enum Recalled {
     Byte(u8),
     Nothing,
@@ -41,7 +41,7 @@ pub fn covers(s: Stretch, at: usize) -> bool
 }
 
 // The stretch that has a place, if one has.
-#[derive(Drop)]
+#[derive(Clone, Copy)]
 pub enum Holder {
     In(Stretch),
     Nowhere,
@@ -82,7 +82,7 @@ pub fn recall(parent: &[u16], label: &[u8], slots: [Stretch; 5], at: usize) -> R
 }
 
 // Slots, and how many of them are in use.
-#[derive(Drop)]
+#[derive(Clone, Copy)]
 pub struct Filled {
     pub slots: [Stretch; 5],
     pub n: usize,

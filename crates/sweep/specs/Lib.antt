@@ -1,4 +1,3 @@
--- What the program's functions promise, and samples of it.
+-- What the program's functions promise.
 pub mod Lines
 pub mod Program
-mod Examples

@@ -1,6 +1,6 @@
 -- What the program's functions promise: which line comes, the sweep with tables of its own, a part as the buffers have it, and what is
 -- read of a file.
-use Rattle.std.specs.Prelude.{ℕ, zero, suc, ◌≤◌, ◌≡◌, Bool, true, false, List, [], ◌∷◌, map, eqb, ℤ, pos, negsuc, length, take, drop}
+use Rattle.std.specs.Prelude.{ℕ, zero, suc, ◌≤◌, ◌≡◌, Bool, true, false, List, [], ◌∷◌, map, eqb, Result, Ok, Err, ℤ, pos, negsuc, length, take, drop}
 use Rattle.io.specs.Counts.{IsPrefixLen}
 use Rattle.rules.specs.Sweep.{further}
 use Rattle.book.specs.Book.{Verdict, accepted, refused, Totals, read_book}
@@ -65,6 +65,11 @@ pub record Listing (tokens : List (List ℕ)) (image : List ℕ) (at : ℕ) (p :
 abbrev pub Holds : Got → List ℕ → Type 0
 Holds (Bytes n) buffer = IsPrefixLen n buffer
 Holds Failed buffer = Unit
+
+-- What a read answered: how many bytes, or -1 where it failed.
+abbrev pub answered : {E : Type 0} → Result ℕ E → ℤ
+answered (Ok n) = pos n
+answered (Err e) = negsuc 0
 
 -- What comes after a read, by its answer, where `done` bytes were read before: a negative one is a failure, but a folder's first read
 -- counts as a file's end; 0 is the file's end; after any other there is more.

@@ -1,19 +1,46 @@
 // The files that are read.
-ghost use Rattle.std.specs.Prelude.{◌≡◌};
-ghost use Rattle.sweep.specs.Program.{Holds, after_read};
+ghost use Rattle.std.specs.Prelude.{◌≡◌, ◌^◌, ◌<◌, ◌↔◌, true, IfOk, IsErrAnd};
+ghost use Rattle.std.specs.IoError.{error_kind};
+ghost use Rattle.sweep.specs.Program.{Holds, answered, after_read};
+
+use crate::reasons;
+use std::fs::File;
+use std::io::{Error, ErrorKind, Read};
+use std::rt::Files;
 
 // What reading a file gives: how many bytes it put at the start of the buffer; or it failed before the file's end.
-#[derive(Drop)]
+#[derive(Clone, Copy)]
 pub enum Got {
     Bytes(usize),
     Failed,
 }
 
 // What comes after a read: more of the file; or the reading is over.
-#[derive(Drop)]
+#[derive(Clone, Copy)]
 pub enum Next {
     More,
     Over(Got),
+}
+
+// What a read answered: how many bytes, or -1 where it failed.
+fn answer(read: &Result<usize, Error>) -> isize
+    requires { IfOk read.now (λ n. n < 2 ^ 63) }
+    ensures { result ≡ answered read.now }
+{
+    match read {
+        Ok(n) => *n as isize,
+        Err(_) => -1,
+    }
+}
+
+// Whether a read failed since the file is a folder.
+fn of_folder(read: &Result<usize, Error>) -> bool
+    ensures { result ≡ true ↔ IsErrAnd read.now (λ e. error_kind e ≡ ErrorKind.IsADirectory) }
+{
+    match read {
+        Ok(_) => false,
+        Err(why) => why.kind() == ErrorKind::IsADirectory,
+    }
 }
 
 // By what the read answered, how many bytes were read before, and whether it failed since the file is a folder. A folder opens, but its
@@ -33,15 +60,31 @@ fn after(got: isize, done: usize, folder: bool) -> Next
     Next::More
 }
 
-// Reads until the buffer is full, the file ends or a read fails. A read that a signal interrupts counts as one that failed.
-fn fill(file: i32, buffer: &mut [u8]) -> Got
+// Where the reading ended with a read that failed, `what` and the reason are said.
+fn say(rt: &(impl Eprint + AllocGlobal), what: &str, end: Got, read: &Result<usize, Error>) {
+    if let Got::Failed = end {
+        if let Err(why) = read {
+            reasons::say(rt, what, why);
+        }
+    }
+}
+
+// Reads until the buffer is full, the file ends or a read fails; of one that fails, `what` and the reason are said. A read that a signal
+// interrupts counts as one that failed.
+fn fill(
+    rt: &(impl Eprint + AllocGlobal),
+    what: &str,
+    file: &mut impl Read,
+    buffer: &mut [u8],
+) -> Got
     ensures { Holds result buffer.new }
 {
     let mut done = 0;
     while done < buffer.len() {
-        let got = libc::read(file, &mut buffer[done..]);
-        let folder = got < 0 && os::errno() == libc::EISDIR;
-        if let Next::Over(end) = after(got, done, folder) {
+        let read = file.read(&mut buffer[done..]);
+        let got = answer(&read);
+        if let Next::Over(end) = after(got, done, of_folder(&read)) {
+            say(rt, what, end, &read);
             return end;
         }
         done += io::count(got, &buffer[done..]);
@@ -49,19 +92,17 @@ fn fill(file: i32, buffer: &mut [u8]) -> Got
     Got::Bytes(done)
 }
 
-// The first bytes of a file, as many as there is room for. A file that can't be opened counts as empty. Of a read that fails, `what` and
-// the reason are said.
-pub fn read(name: &[u8], what: &[u8], buffer: &mut [u8]) -> Got
+// The first bytes of a file, as many as there is room for. A file that can't be opened counts as empty.
+pub fn read(
+    rt: &(impl Files + Eprint + AllocGlobal),
+    name: &str,
+    what: &str,
+    buffer: &mut [u8],
+) -> Got
     ensures { Holds result buffer.new }
 {
-    let file = os::open_read(name);
-    if file < 0 {
-        return Got::Bytes(0);
+    match File::open(rt, name) {
+        Ok(mut file) => fill(rt, what, &mut file, buffer),
+        Err(_) => Got::Bytes(0),
     }
-    let got = fill(file, buffer);
-    if let Got::Failed = got {
-        os::fail(what);
-    }
-    libc::close(file);
-    got
 }

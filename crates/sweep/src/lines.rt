@@ -7,7 +7,7 @@ pub const LONGEST: usize = 67;
 
 // A line and its numbers: the image's length and the number of tokens; a hit's end and its token; how many hits there were and how many
 // bytes were fetched and spared; a refusal's number and its value.
-#[derive(Drop)]
+#[derive(Clone, Copy)]
 pub enum Line {
     Image(usize, usize),
     Hit(usize, usize),

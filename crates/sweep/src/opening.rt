@@ -1,7 +1,7 @@
 // Which line comes first.
 ghost use Rattle.std.specs.Prelude.{◌≡◌, List, ℕ, suc, length, take};
-ghost use Rattle.book.specs.Laws.Prefix.{needed};
 ghost use Rattle.sweep.specs.Program.{image_limit, opening, opening_of};
+ghost use Rattle.book.specs.Book.{needed};
 
 use book::{Numbered, Reading, Totals};
 use image::Swept;
@@ -10,7 +10,7 @@ use image::Swept;
 pub const LIMIT: usize = 65536;
 
 // A refusal, which is the only line; or the lines of a sweep.
-#[derive(Drop)]
+#[derive(Clone, Copy)]
 pub enum Opening {
     Refused(Numbered),
     Sweep(Totals),

@@ -18,7 +18,7 @@ const PART: usize = 3855;
 
 // A part of the image, from one place up to another, and the number of its hits, which the buffers hold; the first `before` of them are
 // listed already.
-#[derive(Drop)]
+#[derive(Clone, Copy)]
 pub struct Part {
     pub from: usize,
     pub to: usize,
@@ -102,6 +102,7 @@ fn sweep(
 
 // Lists all hits of the image, part by part. The numbers of the last line are those that the sweep of the whole image answered.
 pub fn list(
+    rt: &(impl Print + Eprint + AllocGlobal),
     book: &[u8],
     image: &[u8],
     totals: Totals,
@@ -112,12 +113,12 @@ pub fn list(
     requires { Known book.now totals × (length image.now ≤ image_limit) × (max_hits ≤ length ends.old) × (max_hits ≤ length tokens.old) }
 {
     let mut out = [0u8; ROOM];
-    let mut pen = Pen::new().line(&mut out, numbers::first_line(image, totals));
+    let mut pen = Pen::new().line(rt, &mut out, numbers::first_line(image, totals));
     let mut at = 0;
     while at < image.len() {
         let p = sweep(book, image, totals, at, ends, tokens);
-        pen = pen.hits(&mut out, p.from, p.before, p.hits, ends, tokens);
+        pen = pen.hits(rt, &mut out, p.from, p.before, p.hits, ends, tokens);
         at = p.to;
     }
-    pen.end(&mut out, numbers::last_line(found))
+    pen.end(rt, &mut out, numbers::last_line(found))
 }

@@ -4,7 +4,7 @@ ghost use Rattle.sweep.specs.Lines.{line_bytes, Ready, waiting};
 ghost use Rattle.sweep.specs.Program.{image_limit};
 
 use crate::lines::{LONGEST, Line};
-use crate::{lines, numbers};
+use crate::{lines, numbers, reasons};
 use book::{Numbered, Totals};
 use image::Found;
 
@@ -13,7 +13,7 @@ pub const ROOM: usize = 65536;
 
 // How many bytes wait in the buffer, and whether all writes so far went well. After one that did not nothing more is written, so that a
 // last line means that all lines are there.
-#[derive(Drop)]
+#[derive(Clone, Copy)]
 pub struct Pen {
     pub used: usize,
     pub well: bool,
@@ -30,7 +30,7 @@ impl Pen {
     }
 
     // Writes what waits.
-    fn flush(self, out: &[u8]) -> Pen
+    fn flush(self, rt: &(impl Print + Eprint + AllocGlobal), out: &[u8]) -> Pen
         requires { self.used ≤ length out.now }
         ensures { (result.used ≡ 0) × (self.well ≡ false → result.well ≡ false) }
     {
@@ -43,29 +43,29 @@ impl Pen {
         }
         Pen {
             used: 0,
-            well: io::write_all(1, &out[..n]),
+            well: write(rt, &out[..n]),
         }
     }
 
     // Where there is no room for a line what waits is written.
-    fn room(self, out: &[u8]) -> Pen
+    fn room(self, rt: &(impl Print + Eprint + AllocGlobal), out: &[u8]) -> Pen
         requires { self.used ≤ length out.now }
         ensures { (result.used ≡ waiting self.used (length out.now)) × (self.well ≡ false → result.well ≡ false) }
     {
         if out.len() - self.used < LONGEST {
-            return self.flush(out);
+            return self.flush(rt, out);
         }
         self
     }
 
     // A line behind those that wait.
-    pub fn line(self, out: &mut [u8], line: Line) -> Pen
+    pub fn line(self, rt: &(impl Print + Eprint + AllocGlobal), out: &mut [u8], line: Line) -> Pen
         requires { Ready self out.old }
         ensures { Ready result out.new × (take result.used out.new
             ≡ take (waiting self.used (length out.old)) out.old ++ line_bytes line)
             × (self.well ≡ false → result.well ≡ false) }
     {
-        let pen = self.room(out);
+        let pen = self.room(rt, out);
         let at = pen.used;
         Pen {
             used: lines::put(out, at, line),
@@ -76,6 +76,7 @@ impl Pen {
     // A line for each hit that the buffers hold from entry `first` up to `last`, its end moved by `from`.
     pub fn hits(
         self,
+        rt: &(impl Print + Eprint + AllocGlobal),
         out: &mut [u8],
         from: usize,
         first: usize,
@@ -89,40 +90,55 @@ impl Pen {
         let mut pen = self;
         let mut i = first;
         while i < last {
-            pen = pen.line(out, numbers::hit_line(from, ends, tokens, i));
+            pen = pen.line(rt, out, numbers::hit_line(from, ends, tokens, i));
             i += 1;
         }
         pen
     }
 
     // The last line; then what waits is written.
-    pub fn end(self, out: &mut [u8], last: Line)
+    pub fn end(self, rt: &(impl Print + Eprint + AllocGlobal), out: &mut [u8], last: Line)
         requires { Ready self out.old }
     {
-        self.line(out, last).finish(out)
+        self.line(rt, out, last).finish(rt, out)
     }
 
-    // Writes what waits, and says so if not all could be written.
-    fn finish(self, out: &[u8])
+    // Writes what waits, after which nothing comes.
+    fn finish(self, rt: &(impl Print + Eprint + AllocGlobal), out: &[u8])
         requires { self.used ≤ length out.now }
     {
-        let done = self.flush(out);
-        if !done.well {
-            os::fail(b"sweep: not all lines could be written");
+        self.flush(rt, out);
+    }
+}
+
+// Writes the bytes, and answers whether all could be written. If not, that is said, with the reason: once at most, since it is the last write.
+fn write(rt: &(impl Print + Eprint + AllocGlobal), bytes: &[u8]) -> bool {
+    match rt.write_all(bytes) {
+        Ok(()) => true,
+        Err(why) => {
+            reasons::say(rt, "not all lines could be written", &why);
+            false
         }
     }
 }
 
 // A refusal is the only line.
-pub fn refused(why: Numbered) {
+pub fn refused(rt: &(impl Print + Eprint + AllocGlobal), why: Numbered) {
     let mut out = [0u8; LONGEST];
-    Pen::new().end(&mut out, numbers::refused_line(why))
+    Pen::new().end(rt, &mut out, numbers::refused_line(why))
 }
 
 // The lines of a sweep whose hits are all in the buffers.
-pub fn whole(image: &[u8], totals: Totals, found: Found, ends: &[u32], tokens: &[u32]) {
+pub fn whole(
+    rt: &(impl Print + Eprint + AllocGlobal),
+    image: &[u8],
+    totals: Totals,
+    found: Found,
+    ends: &[u32],
+    tokens: &[u32],
+) {
     let mut out = [0u8; ROOM];
-    let pen = Pen::new().line(&mut out, numbers::first_line(image, totals));
-    let last = pen.hits(&mut out, 0, 0, found.hits, ends, tokens);
-    last.end(&mut out, numbers::last_line(found))
+    let pen = Pen::new().line(rt, &mut out, numbers::first_line(image, totals));
+    let last = pen.hits(rt, &mut out, 0, 0, found.hits, ends, tokens);
+    last.end(rt, &mut out, numbers::last_line(found))
 }

@@ -1,1 +1,3 @@
+#![tactic(auto)]
+
 // The tree tables: definitions and laws, no code.

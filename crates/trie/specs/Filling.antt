@@ -2,13 +2,12 @@
 -- is lowered to s, and so is each that lies below the end of a walk that went all the way.
 use Rattle.std.specs.Prelude.{ℕ, zero, suc, ◌+◌, ◌-◌, ◌≤◌, ◌<◌, min, ◌≡◌, true, false, List, [], ◌∷◌, reverse, ltb, length, get_or, set}
 use Rattle.std.proofs.Math.Option.{Option, some, none}
-use Rattle.rules.specs.Tokens.{shortest_of}
+use Rattle.rules.specs.Tokens.{shortest_of, shortened}
 use Rattle.book.specs.Book.{read_book, accepted}
 use Rattle.rules.specs.Words.{all_words}
-use Rattle.rules.specs.Laws.Shortened.{shortened}
 use Rattle.tables.specs.Tables.{nodes, built, Lent}
 use Rattle.tables.specs.Walks.{child_by}
-use Rattle.tables.specs.Laws.Inserted.{unshifted}
+use Rattle.tables.specs.Inserted.{unshifted}
 use Rattle.trie.specs.Answers.{tables, tree_only}
 use Rattle.trie.specs.Chain.{Kids}
 

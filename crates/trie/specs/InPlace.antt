@@ -1,9 +1,11 @@
 -- Insertion into lent tables: the nodes so far stand in front, and anything behind them.
-use Rattle.std.specs.Prelude.{ℕ, ◌+◌, ◌≤◌, ◌<◌, Bool, true, false, List, [], ◌∷◌, reverse, eqb, length, take, set}
+use Rattle.std.specs.Prelude.{ℕ, ◌+◌, ◌≤◌, ◌<◌, Bool, true, false, List, [], ◌∷◌, reverse, eqb, length, take, set, ◌≡◌}
 use Rattle.rules.specs.Words.{all_words}
+use Rattle.rules.specs.Tokens.{body_bytes}
 use Rattle.tables.specs.Tables.{Tables, nodes, built, written}
-use Rattle.tables.specs.Laws.Inserted.{inserted, unshifted}
-use Rattle.tables.specs.Laws.Shape.{Shape}
+use Rattle.tables.specs.Inserted.{inserted, unshifted}
+use Rattle.tables.specs.Shape.{Shape}
+use Rattle.book.specs.Book.{read_book, accepted}
 
 -- all but that of shifts have n entries at least
 pub record Room (t : Tables) (n : ℕ) : Type 0 where
@@ -98,3 +100,18 @@ reversed_if true body = reverse body
 -- The tables of the tokens but for their shifts, in front of what was there.
 unfoldable pub filled : List (List ℕ) → Tables → Counted
 filled tokens t = record { tables = written (unshifted (built tokens)) t; count = length (nodes (all_words tokens)) }
+
+-- the lists but that of shifts are as long as they were
+pub record Kept (t t' : Tables) : Type 0 where
+  pub parents : length t'.parent ≡ length t.parent
+  pub labels : length t'.label ≡ length t.label
+  pub tokens : length t'.token ≡ length t.token
+  pub firsts : length t'.first ≡ length t.first
+  pub nexts : length t'.next ≡ length t.next
+
+-- The book is read, and the tables have room for all words of its bodies.
+pub record Fillable (book : List ℕ) (t : Tables) (many : ℕ) : Type 0 where
+  pub tokens : List (List ℕ)
+  pub read : read_book book ≡ accepted tokens
+  pub count : many ≡ length tokens
+  pub room : Room t (1 + body_bytes tokens)

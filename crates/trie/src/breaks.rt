@@ -1,10 +1,10 @@
 // Refusal 9: the first node that breaks the tables, found in one pass over the nodes.
 ghost use Rattle.std.specs.Prelude.{◌≡◌, ◌&&◌, [], ◌-◌, ◌≤◌, ◌<◌, leb, length};
 ghost use Rattle.tables.specs.Broken.{max_shift, linked, sound, first_break, broken, tested};
+ghost use Rattle.tables.specs.Shape.{up};
 ghost use Rattle.trie.specs.Answers.{tables, tree_only, tested_of, own_sound};
 ghost use Rattle.trie.specs.InPlace.{Room};
-ghost use Rattle.tables.specs.Laws.Shape.{up};
-ghost use Rattle.trie.specs.Laws.NodeByNode.{Reach, Chain};
+ghost use Rattle.trie.specs.NodeByNode.{Reach, Chain};
 
 use crate::Tested;
 use crate::climbs::depth_at;

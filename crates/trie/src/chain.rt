@@ -8,7 +8,7 @@ use crate::Child;
 use crate::entries::{entry, label_at};
 
 // Where a walk stops: at the child, or behind the last of the chain (0: the chain is empty).
-#[derive(Drop)]
+#[derive(Clone, Copy)]
 pub enum Way {
     Found(usize),
     Ends(usize),

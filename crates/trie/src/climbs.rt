@@ -1,8 +1,8 @@
 // How deep a node lies, by the way up through its parents.
 ghost use Rattle.std.specs.Prelude.{◌≡◌, [], ◌+◌, ◌-◌, ◌<◌, length};
 ghost use Rattle.tables.specs.Walks.{depth};
+ghost use Rattle.tables.specs.Shape.{Falling, up};
 ghost use Rattle.trie.specs.Answers.{tree_only};
-ghost use Rattle.tables.specs.Laws.Shape.{Falling, up};
 
 use crate::entries::wide;
 

@@ -2,8 +2,7 @@
 ghost use Rattle.std.specs.Prelude.{◌≡◌, List, ℕ};
 ghost use Rattle.book.specs.Book.{read_book, accepted};
 ghost use Rattle.trie.specs.Answers.{tree_only};
-ghost use Rattle.trie.specs.InPlace.{filled};
-ghost use Rattle.trie.specs.Laws.TokensInPlace.{Fillable};
+ghost use Rattle.trie.specs.InPlace.{filled, Fillable};
 
 use crate::insert::insert_words;
 

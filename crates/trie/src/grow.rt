@@ -7,7 +7,7 @@ use crate::chain::{Way, walk};
 use crate::entries::entry;
 
 // The number of nodes, and the node that the bytes so far lead to.
-#[derive(Drop)]
+#[derive(Clone, Copy)]
 pub struct Place {
     pub count: usize,
     pub node: usize,

@@ -3,8 +3,7 @@ ghost use Rattle.std.specs.Prelude.{◌≡◌, reverse, ℕ, ◌+◌, ◌<◌, l
 ghost use Rattle.rules.specs.Words.{words_of};
 ghost use Rattle.rules.specs.Tokens.{total};
 ghost use Rattle.trie.specs.Answers.{tree_only};
-ghost use Rattle.trie.specs.Laws.Over.{Kept};
-ghost use Rattle.trie.specs.InPlace.{Ready, placed, numbered, reversed_if, placed_words};
+ghost use Rattle.trie.specs.InPlace.{Ready, placed, numbered, reversed_if, placed_words, Kept};
 
 use crate::grow::step;
 use book::words::has_reverse;

@@ -1,5 +1,7 @@
 // The tree tables: the walk along a node's children, the test that tables are a tree, and their building from a book.
 // Tables are always lent in the order parent, label, token, first child, next sibling, shift.
+#![tactic(auto)]
+
 mod breaks;
 pub mod chain;
 mod climbs;
@@ -22,14 +24,14 @@ use fill::fill;
 use shifts::fill_shifts;
 
 // The child of a node with a label, by its number.
-#[derive(Drop)]
+#[derive(Clone, Copy)]
 pub enum Child {
     At(usize),
     Absent,
 }
 
 // Whether tables are a tree, or else the value of refusal 9.
-#[derive(Drop)]
+#[derive(Clone, Copy)]
 pub enum Tested {
     Sound,
     Breaks(usize),
@@ -53,7 +55,7 @@ impl Tested {
 }
 
 // The number of nodes, S and D.
-#[derive(Drop)]
+#[derive(Clone, Copy)]
 pub struct Sizes {
     pub nodes: usize,
     pub shortest: usize,
@@ -61,7 +63,7 @@ pub struct Sizes {
 }
 
 // What building answers: the sizes, the book's refusal, or refusal 7 with the length that was wanted.
-#[derive(Drop)]
+#[derive(Clone, Copy)]
 pub enum Building {
     Made(Sizes),
     Unread(Refusal),

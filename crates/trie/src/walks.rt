@@ -1,7 +1,7 @@
 // Walks of the words without their last s bytes, from the right down the tree: each node that is met is lowered to s.
 ghost use Rattle.std.specs.Prelude.{◌≡◌, List, [], reverse, ℕ, ◌-◌, ◌≤◌, ◌<◌, length};
 ghost use Rattle.rules.specs.Words.{words_of, all_words};
-ghost use Rattle.rules.specs.Laws.Shortened.{shortened};
+ghost use Rattle.rules.specs.Tokens.{shortened};
 ghost use Rattle.book.specs.Book.{read_book, accepted};
 ghost use Rattle.tables.specs.Walks.{child_by};
 ghost use Rattle.trie.specs.Answers.{tree_only};

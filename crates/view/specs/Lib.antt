@@ -1,3 +1,2 @@
--- What the view shows of a node, and samples of it.
+-- What the view shows of a node.
 pub mod View
-pub mod Examples

@@ -1,4 +1,6 @@
 // One node of the tables, through a view that borrows the book: its entries, and where its token's body stands in the book.
+#![tactic(auto)]
+
 mod entries;
 
 ghost use Rattle.std.specs.Prelude.{◌≡◌};
@@ -11,7 +13,7 @@ use entries::entry;
 use trie::entries::{label_at, wide};
 
 // A node's six entries, and the place and length of its token's body; 0 for what there is not.
-#[derive(Drop)]
+#[derive(Clone, Copy)]
 pub struct Node {
     pub parent: u16,
     pub label: u8,
@@ -24,7 +26,7 @@ pub struct Node {
 }
 
 // Place and length of a body.
-#[derive(Drop)]
+#[derive(Clone, Copy)]
 struct Body {
     place: usize,
     length: usize,
@@ -76,7 +78,7 @@ pub fn node_of(
 }
 
 // The view holds the book; the tables are lent at each call.
-#[derive(Drop)]
+#[derive(Clone, Copy)]
 pub struct View<'a> {
     pub book: &'a [u8],
 }

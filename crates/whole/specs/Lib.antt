@@ -1,3 +1,2 @@
--- What the sweep of a whole image answers and leaves, and samples.
+-- What the sweep of a whole image answers and leaves.
 pub mod Image
-pub mod Examples

@@ -1,1 +1,3 @@
+#![tactic(auto)]
+
 // The sweep of a whole image: its definition and samples, no code.

@@ -12,8 +12,8 @@ use lib.ListN.{length, get_or, take}
 use lib.Seq.{length-take-le, get_or-take}
 use Rattle.rules.specs.Lists.{least}
 use Rattle.rules.specs.Tokens.{from_right, agrees, mismatch, fits}
-use Rattle.rules.specs.Laws.Tests.{decide, least-ge, least-le}
-use Rattle.rules.specs.Laws.Fits.{agrees-past, agrees-over, first-none, first-is, fits_byte}
+use Rattle.rules.proofs.Laws.Tests.{decide, least-ge, least-le}
+use Rattle.rules.proofs.Laws.Fits.{agrees-past, agrees-over, first-none, first-is, fits_byte}
 use Rattle.agree.specs.Tests.{byte_test}
 
 -- A word that does not reach so far agrees, and one that does if its byte is the same.

@@ -14,8 +14,8 @@ use lib.Pow.{pow_pos}
 use lib.Seq.{get_or-set_same, get_or-set_other}
 use Rattle.rules.specs.Lists.{any_of}
 use Rattle.rules.specs.Words.{is_word}
-use Rattle.rules.specs.Laws.Tests.{false-test, clash, split}
-use Rattle.rules.specs.Laws.Words.{word-cases, reverse-at}
+use Rattle.rules.proofs.Laws.Tests.{false-test, clash, split}
+use Rattle.rules.proofs.Laws.Words.{word-cases, reverse-at}
 use Rattle.book.specs.Filter.{marks, near, hash_from, hash, is_marked, marked, Covers}
 
 -- Reversing the bytes does not change the hash.

@@ -10,14 +10,15 @@ use lib.ListN.{length, take, drop}
 use Rattle.rules.specs.Lists.{any_of}
 use Rattle.rules.specs.Words.{words_of, is_word}
 use Rattle.rules.specs.Tokens.{total, body_bytes}
-use Rattle.rules.specs.Laws.Tests.{or-nl, or-nr}
-use Rattle.rules.specs.Laws.Words.{bytes-snoc}
+use Rattle.rules.proofs.Laws.Tests.{or-nl, or-nr}
+use Rattle.rules.proofs.Laws.Words.{bytes-snoc}
 use Rattle.book.specs.Book.{Reading, refused, max_tokens, max_bodies, kind_at, size_at, body_at, over_limits, repeats, closed, read_from, read_book, summary}
 use Rattle.book.specs.Answers.{Amounts}
 use Rattle.book.specs.Filter.{Covers}
-use Rattle.book.specs.Laws.Taken.{Opened, Taken, opened-length}
-use Rattle.book.specs.Laws.Records.{Upto, upto-more}
+use Rattle.book.proofs.Laws.Taken.{Opened, Taken, opened-length}
+use Rattle.book.proofs.Laws.Records.{upto-more}
 use Rattle.book.specs.declared.Totals.{Totals}
+use Rattle.book.specs.Records.{Upto}
 
 -- The reader stands at `at`, with these totals and this filter: the rest of its run from here is the whole run.
 pub record Walk (book : List ℕ) (at : ℕ) (t : Totals) (filter : List ℕ) : Type 0 where
@@ -106,7 +107,7 @@ module _ {book : List ℕ} {at : ℕ} {t : Totals} {filter : List ℕ} (w : Walk
     pub beyond : over ≡ true → refused 5 at ≡ summary (read_book book)
     beyond e = says (refused 5 at) (rw e at opened)
 
-    module _ {repeat : Bool} {after : List ℕ}
+    module _ {repeat : Bool} (after : List ℕ)
         (q : (ts : List (List ℕ)) → Upto book at ts → Covers filter ts
         → (repeat ≡ any_of (is_word (take size (drop (at + 1) book))) ts) × Covers after (ts ++ (take size (drop (at + 1) book) ∷ [])))
         (e : over ≡ false) where

@@ -10,9 +10,10 @@ use lib.Seq.{take-suc}
 use Rattle.rules.specs.Tokens.{total}
 use Rattle.book.specs.Book.{Reading, accepted, refused, found, missing, unread, whole_at, read_book, summary, place_in}
 use Rattle.book.specs.Answers.{totalled}
-use Rattle.book.specs.Laws.Accepted.{total-snoc, summed, refused_as}
-use Rattle.book.specs.Laws.Records.{Held, records-at, accepted-records, accepted-place}
+use Rattle.book.proofs.Laws.Accepted.{total-snoc, summed, refused_as}
+use Rattle.book.proofs.Laws.Records.{records-at, accepted-records, accepted-place}
 use Rattle.book.specs.declared.Totals.{Totals}
+use Rattle.book.specs.Records.{Held}
 
 -- The book is refused, and this is its refusal.
 pub unread-is : (r : Reading) (k v i : ℕ) → refused k v ≡ summary r → unread k v ≡ place_in r i

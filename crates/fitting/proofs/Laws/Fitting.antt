@@ -10,10 +10,11 @@ use lib.Dec.{leb}
 use lib.ListN.{length, get_or, take, drop}
 use lib.Seq.{length-take-le}
 use Rattle.rules.specs.Tokens.{mismatch}
-use Rattle.rules.specs.Laws.Tests.{decide, and_l, and_r}
-use Rattle.rules.specs.Laws.Fits.{first-cases}
+use Rattle.rules.proofs.Laws.Tests.{decide, and_l, and_r}
+use Rattle.rules.proofs.Laws.Fits.{first-cases}
 use Rattle.book.specs.Book.{Reading, accepted, refused, Place, found, missing, unread, max_image, has_token, read_book, record_place, place_in}
-use Rattle.book.specs.Laws.Records.{Held, accepted-held}
+use Rattle.book.specs.Records.{Held}
+use Rattle.book.proofs.Laws.Records.{accepted-held}
 use Rattle.fitting.specs.Fitting.{fits, differs, cut_off, fit_at, fit_in}
 
 -- The end in the image: a mismatch, or none.

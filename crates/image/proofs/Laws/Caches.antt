@@ -12,13 +12,13 @@ use mir.Val.{Fits}
 use borrow.Author.Tests.{le-leb}
 use Rattle.rules.specs.Lists.{any_of}
 use Rattle.rules.specs.Tokens.{agrees, byte_shift}
-use Rattle.rules.specs.Laws.Tests.{split, least-ge, least-le}
-use Rattle.rules.specs.Laws.Words.{own-word, word_in}
-use Rattle.rules.specs.Laws.Fits.{byte-shift-is}
-use Rattle.rules.specs.Laws.Lengths.{shortest-is}
-use Rattle.book.specs.Laws.Accepted.{accepted-some}
+use Rattle.rules.proofs.Laws.Tests.{split, least-ge, least-le}
+use Rattle.rules.proofs.Laws.Words.{own-word, word_in}
+use Rattle.rules.proofs.Laws.Fits.{byte-shift-is}
+use Rattle.rules.proofs.Laws.Lengths.{shortest-is}
+use Rattle.book.proofs.Laws.Accepted.{accepted-some}
 use Rattle.agree.specs.Tests.{least_of}
-use Rattle.agree.specs.Laws.Least.{least-bounds}
+use Rattle.agree.proofs.Laws.Least.{least-bounds}
 use Rattle.image.specs.Rule5.{tokens_of, words_in, Accepted, Right, ByByte}
 use Rattle.image.proofs.Laws.Rule5.{shortest-near}
 

@@ -14,8 +14,8 @@ use Rattle.image.specs.Runs.{Powers, Followed}
 use Rattle.image.specs.Rule5.{tokens_of}
 use Rattle.image.specs.Walk.{notes}
 use Rattle.image.specs.Sweeping.{Given, Standing, Stands, Known, Caches, Begun, Skimmable, on_at, Leads}
-use Rattle.image.specs.Laws.Notes.{notes-length, notes-append, notes-over}
-use Rattle.image.specs.Laws.RoundByRound.{begins, all_found, all-counted, looks-small}
+use Rattle.image.proofs.Laws.Notes.{notes-length, notes-append, notes-over}
+use Rattle.image.proofs.Laws.RoundByRound.{begins, all_found, all-counted, looks-small}
 use Rattle.image.proofs.Laws.TurnAttempt.{Goes}
 
 -- A part of the hits found lies in a buffer.
@@ -127,10 +127,10 @@ module _ {book image : List ℕ} {shortest : ℕ} {ends₀ tokens₀ ends tokens
   -- what the contract says at the end
   abbrev pub Done : Type 0
   Done = (at.hits ≡ length (hits_of (tokens_of book) image))
-      × ((at.fetched ≡ fetches_of (tokens_of book) image)
-      × ((at.spared ≡ spares_of (tokens_of book) image)
-      × ((ends ≡ noted (λ h. h.0) (room ends₀ tokens₀) (hits_of (tokens_of book) image) ends₀)
-      × (tokens ≡ noted (λ h. h.1) (room ends₀ tokens₀) (hits_of (tokens_of book) image) tokens₀))))
+      × (at.fetched ≡ fetches_of (tokens_of book) image)
+      × (at.spared ≡ spares_of (tokens_of book) image)
+      × (ends ≡ noted (λ h. h.0) (room ends₀ tokens₀) (hits_of (tokens_of book) image) ends₀)
+      × (tokens ≡ noted (λ h. h.1) (room ends₀ tokens₀) (hits_of (tokens_of book) image) tokens₀)
 
   pub rounding-done : length image < at.boundary → Done
   rounding-done h =
@@ -138,14 +138,8 @@ module _ {book image : List ℕ} {shortest : ℕ} {ends₀ tokens₀ ends tokens
       let n = all-counted book image at l.found l.stands h in
       let all = hits_of (tokens_of book) image in (
         l.stands.counted ∙ ap length e,
-        (
-          n.0,
-          (
-            n.1,
-            (
-              part-done (λ h. h.0) (room ends₀ tokens₀) l.found all ends₀ ends (omega arith) e l.ends-hold,
-              part-done (λ h. h.1) (room ends₀ tokens₀) l.found all tokens₀ tokens (omega arith) e l.tokens-hold,
-            ),
-          ),
-        ),
+        n.0,
+        n.1,
+        part-done (λ h. h.0) (room ends₀ tokens₀) l.found all ends₀ ends (omega arith) e l.ends-hold,
+        part-done (λ h. h.1) (room ends₀ tokens₀) l.found all tokens₀ tokens (omega arith) e l.tokens-hold,
       )

@@ -5,7 +5,7 @@ use mathlib.Core.Path.{◌≡◌, refl}
 use mathlib.Core.Bool.{false}
 use mathlib.Core.List.{List}
 use lib.ListN.{length, get_or, replicate, length-replicate}
-use Rattle.rules.specs.Laws.Tests.{clash}
+use Rattle.rules.proofs.Laws.Tests.{clash}
 use Rattle.image.specs.Runs.{Powers}
 use Rattle.image.specs.Sweeping.{Caches}
 

@@ -8,13 +8,13 @@ use lib.ListN.{length, take, drop, replicate, length-reverse}
 use lib.Seq.{take_at}
 use Rattle.rules.specs.Lists.{least, over}
 use Rattle.rules.specs.Words.{has_reverse, words_of, all_words}
-use Rattle.rules.specs.Laws.Over.{over-length}
-use Rattle.rules.specs.Laws.Words.{words-both, words-own, turned-bytes, words_append, words_snoc}
+use Rattle.rules.proofs.Laws.Over.{over-length}
+use Rattle.rules.proofs.Laws.Words.{words-both, words-own, turned-bytes, words_append, words_snoc}
 use Rattle.agree.specs.Tests.{least_of}
-use Rattle.agree.specs.Laws.Least.{least-none, least-one, least-words, least-bounds}
+use Rattle.agree.proofs.Laws.Least.{least-none, least-one, least-words, least-bounds}
 use Rattle.book.specs.Book.{max_body, whole_at}
-use Rattle.book.specs.Laws.Accepted.{accepted-shortest}
-use Rattle.book.specs.Laws.Records.{Passing, passing-none, passing-more, passing-all}
+use Rattle.book.proofs.Laws.Accepted.{accepted-shortest}
+use Rattle.book.proofs.Laws.Records.{Passing, passing-none, passing-more, passing-all}
 use Rattle.image.specs.Rule5.{tokens_of, words_in, Accepted}
 
 -- S is the length of a token.

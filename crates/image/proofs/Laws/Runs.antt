@@ -8,7 +8,7 @@ use borrow.Author.Tests.{ltb-true, ltb-false, eqb-true}
 use lib.Dec.{ltb, eqb}
 use lib.ListN.{length, get_or, set, length-set}
 use lib.Seq.{get_or-set_same, get_or-set_other}
-use Rattle.rules.specs.Laws.Tests.{split, decide, clash}
+use Rattle.rules.proofs.Laws.Tests.{split, decide, clash}
 use Rattle.book.specs.Book.{max_body}
 use Rattle.tables.specs.Walks.{child_by}
 use Rattle.trie.specs.Answers.{tree_only, child_of}

@@ -5,15 +5,15 @@ use mathlib.Core.Path.{◌≡◌, refl, ap, sym, subst, ◌∙◌}
 use mathlib.Core.List.{List, []}
 use mathlib.Core.Option.{some}
 use lib.ListN.{get_or}
-use Rattle.rules.specs.Laws.Tests.{split}
-use Rattle.rules.specs.Laws.Exact.Shift.{shift-upto}
+use Rattle.rules.proofs.Laws.Tests.{split}
+use Rattle.rules.proofs.Laws.Exact.Shift.{shift-upto}
 use Rattle.book.specs.Book.{max_image, max_body}
-use Rattle.book.specs.Laws.Accepted.{accepted-setting}
+use Rattle.book.proofs.Laws.Accepted.{accepted-setting}
 use Rattle.image.specs.declared.skim.Skipped.{Skipped}
 use Rattle.image.specs.Rule5.{tokens_of, words_in, BySkip}
 use Rattle.image.specs.Sweeping.{Stands, Cached, Four, Paired, Skimmable, on_at, Leads, Skimmed}
-use Rattle.image.specs.Laws.RoundByRound.{looks-small, short-upto}
-use Rattle.image.specs.Laws.ShortRounds.{skims, skims-two}
+use Rattle.image.proofs.Laws.RoundByRound.{looks-small, short-upto}
+use Rattle.image.proofs.Laws.ShortRounds.{skims, skims-two}
 
 pub cached-is : {image skip : List ℕ} {b m n : ℕ} → Cached image skip b m → m ≡ n → Cached image skip b n
 cached-is {image} {skip} {b} k e = subst (Cached image skip b) e k

@@ -5,10 +5,11 @@ use mathlib.Core.Path.{◌≡◌, refl, ap, sym, subst, ◌∙◌}
 use mathlib.Core.Bool.{Bool, true, false}
 use mathlib.Core.List.{List, [], ◌∷◌, ◌++◌, append-nil}
 use lib.ListN.{length, get_or, set, length-set, length-append}
-use Rattle.rules.specs.Lists.{select}
+use Rattle.rules.specs.Lists.{select, All}
 use Rattle.rules.specs.Rules.{left_over, cut, kept}
-use Rattle.rules.specs.Laws.All.{All, select-append}
-use Rattle.rules.specs.Laws.Remember.{Lies, stays, staying, staying-one, Stay, stay-done, stay-again, lie-later}
+use Rattle.rules.specs.Stretches.{Lies, stays, staying}
+use Rattle.rules.proofs.Laws.All.{select-append}
+use Rattle.rules.proofs.Laws.Remember.{staying-one, Stay, stay-done, stay-again, lie-later}
 use Rattle.image.specs.Spans.{Spans, Places, spans_of, placed, in_use, renewed, Fits}
 use Rattle.image.proofs.Laws.Spans.{Five, span_at, rest_from, more, past, counts, one_more_lem, rest-stays}
 

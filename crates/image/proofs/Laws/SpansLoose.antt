@@ -4,11 +4,10 @@ use native.Mathlib.Omega.{arith}
 use mathlib.Core.Path.{◌≡◌, ap, sym, subst, ◌∙◌}
 use mathlib.Core.List.{List, ◌∷◌}
 use lib.ListN.{get_or}
-use Rattle.rules.specs.Laws.All.{All}
-use Rattle.rules.specs.Laws.Remember.{Lies}
-use Rattle.rules.specs.Laws.Limit.Count.{loose}
 use Rattle.image.specs.Spans.{spans_of, placed, in_use, Fits}
 use Rattle.image.proofs.Laws.Spans.{Five, span_at, rest_from, more, past}
+use Rattle.rules.specs.Lists.{All}
+use Rattle.rules.specs.Stretches.{Lies, loose}
 
 -- n places were counted up to `from`, and the stretches from i on are left.
 pub record Counting (lefts rights : List ℕ) (used q b from n i : ℕ) : Type 0 where

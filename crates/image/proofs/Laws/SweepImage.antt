@@ -8,12 +8,12 @@ use borrow.Author.Tests.{lt-ltb, le-ltb}
 use lib.ListN.{length, take, drop, length-append, length-take, length-drop, length-map}
 use Rattle.rules.specs.Words.{all_words}
 use Rattle.rules.specs.Tokens.{body_bytes}
-use Rattle.rules.specs.Laws.Tests.{decide}
+use Rattle.rules.proofs.Laws.Tests.{decide}
 use Rattle.book.specs.Book.{Verdict, Reading, accepted, refused, Totals, summary, read_book, max_image, too_long}
-use Rattle.book.specs.Laws.Accepted.{Summed, accepted-fit, accepted-some}
+use Rattle.book.proofs.Laws.Accepted.{Summed, accepted-fit, accepted-some}
 use Rattle.tables.specs.Tables.{Tables, nodes, built, Lent, written, too_short, shortest_table, Sizes, sizes_of, Building, build}
-use Rattle.tables.specs.Laws.Made.{written-lent, answer_to, build-made}
-use Rattle.tables.specs.Laws.Represents.{built-represents}
+use Rattle.tables.proofs.Laws.Made.{written-lent, answer_to, build-made}
+use Rattle.tables.proofs.Laws.Represents.{built-represents}
 use Rattle.whole.specs.Image.{Swept, room, hits_of, fetches_of, spares_of, counted, noted, sweep_image}
 use Rattle.image.specs.Results.{refusal_for}
 use Rattle.image.specs.Rule5.{tokens_in, tokens_of}

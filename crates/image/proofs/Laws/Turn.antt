@@ -11,8 +11,8 @@ use lib.ListN.{length, get_or, set, length-set}
 use lib.Seq.{get_or-set_same, get_or-set_other}
 use Rattle.rules.specs.Lists.{any_of}
 use Rattle.rules.specs.Tokens.{fits, node_shift, byte_shift, of_tokens, shift_of, shortest_of}
-use Rattle.rules.specs.Laws.Tests.{split, and_l, and_r, least-ge}
-use Rattle.rules.specs.Laws.Limit.Count.{loose}
+use Rattle.rules.specs.Stretches.{loose}
+use Rattle.rules.proofs.Laws.Tests.{split, and_l, and_r, least-ge}
 use Rattle.image.specs.declared.walk.Stop.{Stop}
 use Rattle.image.specs.declared.walk.Stop.TheVariants.{Byte, Nothing}
 use Rattle.image.specs.declared.walk.Arrival.{Arrival}
@@ -22,9 +22,9 @@ use Rattle.book.specs.Book.{max_image}
 use Rattle.image.specs.Spans.{Spans, spans_of, in_use, renewed, Fits}
 use Rattle.image.specs.Rule5.{tokens_of, words_in, Accepted, closing_of, BySkip}
 use Rattle.image.specs.Sweeping.{Standing, Known, lowest_of, Learns, end_at, shift_at, ByPair, Sees, Ended}
-use Rattle.image.specs.Laws.Roots.{first-shut, down-closes}
-use Rattle.image.specs.Laws.Spans.{none-renewed, none-loose, loose-upto}
-use Rattle.image.specs.Laws.RoundByRound.{depths, matches, raised, renewed-few, stands-fit, looks-small}
+use Rattle.image.proofs.Laws.Roots.{first-shut, down-closes}
+use Rattle.image.proofs.Laws.Places.{none-renewed, none-loose, loose-upto}
+use Rattle.image.proofs.Laws.RoundByRound.{depths, matches, raised, renewed-few, stands-fit, looks-small}
 
 -- The leftmost place.
 lowest-same : {E : Type 0} (b depth : ℕ) (stop : Stop) (r : Reached E) → depth ≡ r.depth → closing_of stop ≡ r.closing

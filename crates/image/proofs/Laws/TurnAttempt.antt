@@ -8,7 +8,7 @@ use lib.ListN.{length}
 use Rattle.rules.specs.Rules.{Tree}
 use Rattle.rules.specs.Tokens.{shortest_of}
 use Rattle.book.specs.Book.{max_body}
-use Rattle.book.specs.Laws.Accepted.{accepted-fit, accepted-some}
+use Rattle.book.proofs.Laws.Accepted.{accepted-fit, accepted-some}
 use Rattle.tables.specs.Tables.{Tables}
 use Rattle.trie.specs.Answers.{tables}
 use Rattle.image.specs.declared.walk.Arrival.{Arrival}
@@ -16,8 +16,8 @@ use Rattle.image.specs.Rounds.{reached}
 use Rattle.image.specs.Rule5.{tokens_of, closing_of}
 use Rattle.image.specs.Walk.{tree_in, Walkable, newest, stop_of, arrival_of, Noted}
 use Rattle.image.specs.Sweeping.{Given, Standing, Stands, Known, end_at, met_at, Begun}
-use Rattle.image.specs.Laws.Tables.{walkable, Same, reached-same}
-use Rattle.image.specs.Laws.RoundByRound.{hits-small, depths, turns}
+use Rattle.image.proofs.Laws.Tables.{walkable, Same, reached-same}
+use Rattle.image.proofs.Laws.RoundByRound.{hits-small, depths, turns}
 use Rattle.image.proofs.Laws.Turn.{Arrives, Turned}
 
 -- From one standing to another, with more hits put into the buffers.

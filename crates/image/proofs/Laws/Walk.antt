@@ -8,7 +8,7 @@ use borrow.Author.Tests.{eq-eqb, ne_eqb}
 use lib.Dec.{eqb}
 use lib.ListN.{get_or}
 use Rattle.rules.specs.Rules.{Tree}
-use Rattle.rules.specs.Laws.Tests.{or_r}
+use Rattle.rules.proofs.Laws.Tests.{or_r}
 use Rattle.image.specs.Rounds.{Reached, meeting, down}
 
 -- It goes on, or stops at a leaf or at the image's edge.
@@ -19,8 +19,8 @@ module _ (a d b : ℕ) where
   pub stops-leaf : a ≡ 0 → (eqb a 0 || eqb d b) ≡ true
   stops-leaf h = ap (λ t. t || eqb d b) (eq-eqb a 0 h)
 
-  pub stops-edge : eqb d b ≡ true → (eqb a 0 || eqb d b) ≡ true
-  stops-edge h = or_r (eqb a 0) (eqb d b) (λ _. h)
+  pub stops-edge : d ≡ b → (eqb a 0 || eqb d b) ≡ true
+  stops-edge h = or_r (eqb a 0) (eqb d b) (λ _. eq-eqb d b h)
 
 abbrev pub ended : ℕ → ℕ → Option ℕ → List ℕ → Reached ℕ
 ended v d o m = record { node = v; depth = d; closing = o; tokens = m }

@@ -4,13 +4,14 @@ use native.Mathlib.Omega.{arith}
 use native.Mathlib.Numerals.{add-one}
 use mathlib.Core.Path.{◌≡◌, refl, ap, sym, ◌∙◌}
 use mathlib.Core.Bool.{true}
-use mathlib.Core.List.{List, ◌∷◌}
+use mathlib.Core.List.{List, [], ◌∷◌}
 use mathlib.Core.Option.{some}
 use lib.ListN.{length, get_or, set}
 use lib.Seq.{get_or-set_same}
 use Rattle.rules.specs.Rules.{Tree}
 use Rattle.tables.specs.Tables.{Tables}
 use Rattle.tables.specs.Walks.{along}
+use Rattle.trie.specs.Answers.{tree_only}
 use Rattle.image.specs.declared.walk.Stop.TheVariants.{Byte}
 use Rattle.image.specs.declared.runs.Runs.{Runs}
 use Rattle.image.specs.Rounds.{down, reached}
@@ -49,7 +50,7 @@ module _ {label token first next : List ℕ} {count : ℕ} (t : Walkable label t
   to-power zero h g = let z : b - 0 ≡ b = omega arith in rw (p.root, p.empty, z) refl
   to-power (suc k) h g =
       let c = p.child k (omega arith) in
-      let on = goes_on (get_or first (get_or power k 0) 0) k b (λ e. some_first _ runs.byte count _ _ c e) (λ e. omega arith) in
+      let on = goes_on (get_or first (get_or power k 0) 0) k b (λ e. some_first (tree_only [] label token first next) runs.byte count _ _ c e) (λ e. omega arith) in
       let step = to-power k (omega arith) (omega arith)
       ∙ down-on tree image b (b - k) (get_or power k 0) k (newest numbers (get_or upto k 0)) runs.byte on (bytes k (omega arith)) (get_or power (k + 1) 0) c in
       let z : b - k ≡ suc (b - suc k) = omega arith in

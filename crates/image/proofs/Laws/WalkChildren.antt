@@ -10,8 +10,8 @@ use Rattle.trie.specs.Answers.{tree_only, child_of}
 use Rattle.trie.specs.declared.Child.{Child}
 use Rattle.trie.specs.declared.Child.TheVariants.{At}
 use Rattle.trie.specs.Chain.{Kids}
-use Rattle.trie.specs.Laws.Chain.{along-alike}
-use Rattle.trie.specs.Laws.Kids.{root_none, root-some}
+use Rattle.trie.proofs.Laws.Chain.{along-alike}
+use Rattle.trie.proofs.Laws.Kids.{root_none, root-some}
 use Rattle.image.specs.Walk.{Walkable}
 
 module _ (label token first next : List ℕ) (count : ℕ) where

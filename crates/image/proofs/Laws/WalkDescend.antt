@@ -20,7 +20,7 @@ use Rattle.image.specs.declared.walk.Stop.TheVariants.{Byte, Nothing}
 use Rattle.image.specs.declared.walk.Arrival.{Arrival}
 use Rattle.image.specs.Rounds.{meeting, down, reached}
 use Rattle.image.specs.Walk.{tree_in, Walkable, newest, Descending, stop_of, arrival_of, Arrived}
-use Rattle.image.specs.Laws.Roots.{down-deeper}
+use Rattle.image.proofs.Laws.Roots.{down-deeper}
 use Rattle.image.proofs.Laws.WalkChildren.{child-in, child-below, root-shut, root-child}
 use Rattle.image.proofs.Laws.Walk.{ended, down-stop, down-shut, down-on}
 

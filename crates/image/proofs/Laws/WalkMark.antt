@@ -6,7 +6,7 @@ use mathlib.Core.List.{List, ◌∷◌, map}
 use lib.ListN.{length, get_or}
 use Rattle.whole.specs.Image.{room}
 use Rattle.image.specs.Walk.{newest, note, notes, Noted}
-use Rattle.image.specs.Laws.Notes.{note-length}
+use Rattle.image.proofs.Laws.Notes.{note-length}
 
 -- To put the hits left from place n on is to put those found from place `hits` on.
 pub record Noting (ends₀ tokens₀ : List ℕ) (hits : ℕ) (found : List (ℕ × ℕ)) (ends tokens : List ℕ) (n : ℕ) (left : List (ℕ × ℕ)) : Type 0 where

@@ -7,7 +7,7 @@ use mathlib.Core.List.{List}
 use borrow.Author.Tests.{lt-ltb, le-ltb}
 use lib.ListN.{length}
 use Rattle.rules.specs.Lists.{over}
-use Rattle.rules.specs.Laws.Tests.{decide}
+use Rattle.rules.proofs.Laws.Tests.{decide}
 use Rattle.book.specs.Bytes.{book_of}
 use Rattle.merge.specs.Merge.{merged, over_limits, wrote, limits_passed, no_room, join}
 use Rattle.merge.specs.Steps.{Marks, Surveyed}

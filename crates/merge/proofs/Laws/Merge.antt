@@ -9,9 +9,9 @@ use Rattle.rules.specs.Tokens.{body_bytes}
 use Rattle.book.specs.Book.{refused, max_tokens, max_bodies, read_book, Totals as Sums, summary, bodies_in}
 use Rattle.book.specs.Answers.{totalled}
 use Rattle.book.specs.declared.Totals.{Totals}
-use Rattle.book.specs.Laws.Accepted.{Summed, refused_as, accepted-fit}
-use Rattle.book.specs.Laws.Bodies.{accepted-bodies}
-use Rattle.book.specs.Laws.Bytes.{accepted-bytes}
+use Rattle.book.proofs.Laws.Accepted.{Summed, refused_as, accepted-fit}
+use Rattle.book.proofs.Laws.Bodies.{accepted-bodies}
+use Rattle.book.proofs.Laws.Bytes.{accepted-bytes}
 use Rattle.merge.specs.Merge.{too_large, first_bad, second_bad, Merging, join, merge}
 use Rattle.merge.specs.Steps.{Books}
 

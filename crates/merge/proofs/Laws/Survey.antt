@@ -11,18 +11,18 @@ use lib.Seq.{take_all, get_or-set_same, get_or-set_other}
 use Rattle.rules.specs.Lists.{any_of}
 use Rattle.rules.specs.Words.{words_of, is_word, all_words}
 use Rattle.rules.specs.Tokens.{total, body_bytes}
-use Rattle.rules.specs.Laws.Tests.{clash, below_suc, least-is}
-use Rattle.rules.specs.Laws.Words.{total-append, bytes-snoc, words-bytes, total-bytes}
+use Rattle.rules.proofs.Laws.Tests.{clash, below_suc, least-is}
+use Rattle.rules.proofs.Laws.Words.{total-append, bytes-snoc, words-bytes, total-bytes}
 use Rattle.book.specs.Book.{max_tokens, max_bodies, whole_at, record_place, bodies_in}
 use Rattle.book.specs.Bytes.{book_of}
-use Rattle.book.specs.Laws.Accepted.{total-snoc}
-use Rattle.book.specs.Laws.Bytes.{bytes-length}
+use Rattle.book.proofs.Laws.Accepted.{total-snoc}
+use Rattle.book.proofs.Laws.Bytes.{bytes-length}
 use Rattle.book.specs.declared.Totals.{Totals}
 use Rattle.merge.specs.Merge.{lacks, merged, too_large, fitting, over_limits}
 use Rattle.merge.specs.Steps.{Books, Surveyed}
-use Rattle.merge.specs.Laws.Walk.{Walk, walk_begins, walk_ends, walk-some, walk-body, walk-size, walk-next}
-use Rattle.merge.specs.Laws.Valid.{within}
-use Rattle.merge.specs.Laws.More.{merged-more}
+use Rattle.merge.proofs.Laws.Walk.{Walk, walk_begins, walk_ends, walk-some, walk-body, walk-size, walk-next}
+use Rattle.merge.proofs.Laws.Valid.{within}
+use Rattle.merge.proofs.Laws.More.{merged-more}
 use Rattle.merge.specs.declared.survey.Fit.TheVariants.{Over, Needs}
 
 -- each token's words are one part of all body bytes

@@ -5,18 +5,18 @@ use native.Mathlib.Numerals.{add-one}
 use mathlib.Core.Path.{◌≡◌, ap, sym, ◌∙◌}
 use mathlib.Core.Bool.{Bool, false}
 use mathlib.Core.List.{List, [], ◌∷◌, ◌++◌, append_assoc, append-nil}
-use lib.ListN.{length, get_or, take, drop, set, length-append, length-drop, take-append-drop, drop_of_length-le}
-use lib.Seq.{take_all, take_at, take-length, take-append_seam, drop-drop, drop-cons, append_snoc, set-append_seam}
+use lib.ListN.{length, get_or, take, drop, set, length-append, take-append-drop}
+use lib.Seq.{length-take-le, take_at, take-length, take-append_seam, drop-drop, drop-cons, append_snoc, set-append_seam}
 use Rattle.rules.specs.Lists.{over, select}
-use Rattle.rules.specs.Laws.All.{select-append}
-use Rattle.rules.specs.Laws.Over.{over-length, over-behind, over-over}
+use Rattle.rules.proofs.Laws.All.{select-append}
+use Rattle.rules.proofs.Laws.Over.{over-length, over-behind, over-over}
 use Rattle.book.specs.Book.{whole_at, bodies_in}
 use Rattle.book.specs.Bytes.{records_of, book_of}
-use Rattle.book.specs.Laws.Bytes.{record-at, records-append}
+use Rattle.book.proofs.Laws.Bytes.{record-at, records-append}
 use Rattle.merge.specs.Merge.{lacks, merged}
 use Rattle.merge.specs.Steps.{Marks, if_wanted, placed}
-use Rattle.merge.specs.Laws.Walk.{Walk, walk_begins, walk_ends, walk-some, walk-body, walk-size, walk-next}
-use Rattle.merge.specs.Laws.More.{records-more}
+use Rattle.merge.proofs.Laws.Walk.{Walk, walk_begins, walk_ends, walk-some, walk-body, walk-size, walk-next}
+use Rattle.merge.proofs.Laws.More.{records-more}
 
 over-placed : (m n l : List ℕ) → placed (over m l) (length m) n ≡ over (m ++ n) l
 over-placed m n l = rw (take-append_seam, over-behind, length-append)
@@ -29,12 +29,8 @@ module _ (out : List ℕ) (to : ℕ) where
   pub placed-none : out ≡ placed out to []
   placed-none = let z : to + 0 ≡ to = omega arith in rw (append-nil, z) (sym (take-append-drop to out))
 
-  pub placed-copy : (part new : List ℕ) → to + length part ≤ length out
-      → new ≡ take (length part) part ++ drop (length part) (take (length out - to) (drop to out))
-      → take to out ++ (new ++ drop (length out - to) (drop to out)) ≡ placed out to part
-  placed-copy part new h e =
-      let n : length (drop to out) ≤ length out - to = rw length-drop (omega arith) in
-      rw (e, take-length, take_all (length out - to) (drop to out) n, drop_of_length-le (drop to out) n, append-nil, drop-drop, append_assoc)
+  pub placed-copy : (part new : List ℕ) → new ≡ part → take to out ++ (new ++ drop (to + length part - to) (drop to out)) ≡ placed out to part
+  placed-copy part new e = let z : to + length part - to ≡ length part = omega arith in rw (e, z, drop-drop, append_assoc)
 
 merged-append : (tokens l m : List (List ℕ)) → merged tokens (l ++ m) ≡ merged tokens l ++ select (lacks tokens) m
 merged-append tokens l m = rw (select-append, append_assoc)
@@ -80,20 +76,25 @@ module _ (first second l : List ℕ) (made : first ≡ book_of (bodies_in first)
   front-records : front ≡ records_of (bodies_in first)
   front-records = but_last first (records_of (bodies_in first)) 0 made
 
-  pub front_fits : length front ≤ length l
-  front_fits = rw front-records (omega (arith, records-fit first second))
+  front-length : length first - 1 ≡ length (records_of (bodies_in first))
+  front-length = sym (length-take-le (length first - 1) first (omega arith)) ∙ ap length front-records
 
-  module _ (out : List ℕ) (o : out ≡ take (length front) front ++ drop (length front) l) where
+  pub front_fits : length first - 1 ≤ length l
+  front_fits = omega (arith, front-length, records-fit first second)
+
+  module _ (out : List ℕ) (o : out ≡ front ++ drop (length first - 1) l) where
     pub copied : out ≡ over (records_of (bodies_in first)) l
-    copied = rw (take-length, front-records) at o
+    copied =
+        o ∙ ap (λ m. m ++ drop (length first - 1) l) front-records
+        ∙ ap (λ k. records_of (bodies_in first) ++ drop k l) front-length
 
-    pub begins : Written first second out out (length front) 0 0
+    pub begins : Written first second out out (length first - 1) 0 0
     begins =
         let records = records_of (bodies_in first) in
         record {
           walk = walk_begins second;
           room = rw (copied, over-length records l (omega (arith, records-fit first second))) fits;
-          ends = ap length (front-records ∙ sym (up-to-none first second));
+          ends = front-length ∙ ap length (sym (up-to-none first second));
           is = rw (up-to-none first second, copied, over-over records records l (omega arith));
         }
 

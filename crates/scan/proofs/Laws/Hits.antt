@@ -5,8 +5,8 @@ use mathlib.Core.Path.{◌≡◌, refl, ap, sym, ◌∙◌}
 use mathlib.Core.List.{List}
 use lib.ListN.{get_or}
 use Rattle.tables.specs.Walks.{carrier}
-use Rattle.tables.specs.Laws.Shape.{Falling}
-use Rattle.tables.specs.Laws.Hits.{carrier-here, carrier-above}
+use Rattle.tables.specs.Shape.{Falling}
+use Rattle.tables.proofs.Laws.Hits.{carrier-here, carrier-above}
 use Rattle.scan.specs.declared.Scan.{Scan}
 use Rattle.scan.specs.Ways.{marks, Marked, Nears}
 use Rattle.scan.specs.declared.Answer.TheVariants.{Hit}

@@ -7,11 +7,12 @@ use mathlib.Core.List.{List, [], ◌∷◌}
 use lib.Dec.{eqb}
 use lib.ListN.{length, get_or}
 use Rattle.rules.specs.Rules.{Stretch}
-use Rattle.rules.specs.Laws.Tests.{decide}
+use Rattle.rules.proofs.Laws.Tests.{decide}
 use Rattle.tables.specs.Tables.{Tables}
 use Rattle.tables.specs.Walks.{climb, depth}
-use Rattle.tables.specs.Laws.Shape.{Falling, way_step}
-use Rattle.tables.specs.Laws.Unbroken.{unbroken}
+use Rattle.tables.specs.Shape.{Falling}
+use Rattle.tables.proofs.Laws.Shape.{way_step}
+use Rattle.tables.proofs.Laws.Unbroken.{unbroken}
 use Rattle.scan.specs.declared.Scan.{Scan}
 use Rattle.scan.specs.State.{rising}
 use Rattle.trie.specs.Answers.{tables}
@@ -50,10 +51,6 @@ module _ {parent : List ℕ} {count : ℕ} (rises : Rises parent count) where
 pub climb-runs : {parent : List ℕ} {count node at n low end : ℕ} → Climb parent count node at n → Run parent at low end
     → Climb parent count node end (n + (at - end))
 climb-runs s r = record { below = omega (arith, s.below, r.high); sum = omega (arith, s.sum, r.high, r.deep) }
-
-pub climb-done : {parent : List ℕ} {count node at n : ℕ} → Climb parent count node at n → at ≡ 0
-    → n ≡ depth (paths parent []) node
-climb-done {parent} s e = omega (arith, s.sum, ap (depth (paths parent [])) e)
 
 -- Tables that pass refusal 9 can be climbed, and have a token number and a first child for each node.
 pub passing-out : {parent token first : List ℕ} {count : ℕ} → Passing parent token first count → 1 ≤ count

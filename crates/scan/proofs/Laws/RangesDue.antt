@@ -48,10 +48,6 @@ due-same t s =
     let u = tree_only [] [] [] t.first [] in
     cc (wants_is (tree_of u s) (config_of s) s.image, wants_is (tree_of t s) (config_of s) s.image)
 
--- No byte is due.
-pub idle-passes : (first : List ℕ) (s : Scan) → not s.due ≡ true → due_ok (tree_only [] [] [] first []) s ≡ true
-idle-passes first s e = rw e
-
 -- A byte is due: the answer, from the tests.
 pub due-tests : (first : List ℕ) (s : Scan) → s.due ≡ true → {a b d r : Bool}
     → ltb s.image s.boundary ≡ a → eqb (get_or first s.node 0) 0 ≡ b → eqb s.depth s.boundary ≡ d

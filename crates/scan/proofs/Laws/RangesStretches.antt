@@ -25,10 +25,6 @@ module _ {f g : List Slot → Bool} {slots : List Slot} {i : ℕ} (w : Walked f 
   pub walk-next : i < max_stretches → f (get_or slots i unused ∷ drop (i + 1) slots) ≡ g slots
   walk-next h = sym (ap f (drop-cons slots i unused (omega (arith, w.long)) ∙ rw add-one)) ∙ w.rest
 
-  pub walk-again : i < max_stretches → (f' : List Slot → Bool)
-      → f' (drop (i + 1) slots) ≡ f (get_or slots i unused ∷ drop (i + 1) slots) → Walked f' g slots (i + 1)
-  walk-again h f' e = record { long = w.long; upto = omega arith; rest = e ∙ walk-next h }
-
   pub walk_end : max_stretches ≤ i → f [] ≡ g slots
   walk_end h = sym (ap f (drop_of_length-le slots {i = i} (omega (arith, w.long)))) ∙ w.rest
 
@@ -98,14 +94,7 @@ module _ (t : Tables) (s : Scan) where
     abbrev slot : Slot
     slot = get_or s.stretches i unused
 
-    pub stand-skips : in_use slot ≡ false → Walked (stands t s true from) (stands t s false 0) s.stretches (i + 1)
-    stand-skips u = walk-again w h (stands t s true from) cc
-
     pub stand-fails : in_use slot ≡ true → {a b c : Bool}
         → over ≡ a → leb from slot.left ≡ b → stretch_ok t s (stretch_of slot) ≡ c
         → (not a && b && c) ≡ false → false ≡ stretches_ok t s
     stand-fails u ea eb ec e = cc (walk-next w h) ∙ stretches-is w.long
-
-    pub stand-again : in_use slot ≡ true → over ≡ false → leb from slot.left ≡ true → stretch_ok t s (stretch_of slot) ≡ true
-        → Walked (stands t s over slot.right) (stands t s false 0) s.stretches (i + 1)
-    stand-again u ea eb ec = walk-again w h (stands t s over slot.right) cc

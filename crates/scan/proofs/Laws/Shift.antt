@@ -11,16 +11,16 @@ use lib.Bits.{bit_or, or_add_and, and_le_l, and_le_r}
 use lib.ListN.{length, get_or, take, drop, length-append, length-drop}
 use lib.Seq.{take_at}
 use Rattle.rules.specs.Lists.{least, over}
-use Rattle.rules.specs.Laws.Tests.{split, least-upto}
+use Rattle.rules.proofs.Laws.Tests.{split, least-upto}
 use Rattle.rules.specs.Tokens.{byte_shift}
 use Rattle.agree.specs.Tests.{byte_test, least_of}
-use Rattle.agree.specs.Laws.Least.{least-none, least-bounds, least-word}
+use Rattle.agree.proofs.Laws.Least.{least-none, least-bounds, least-word}
 use Rattle.tables.specs.Tables.{Tables}
 use Rattle.tables.specs.Walks.{ending, depth, words, shift_from}
 use Rattle.trie.specs.Answers.{tables, tree_only}
 use Rattle.scan.specs.Ways.{paths}
 use Rattle.scan.specs.Shifts.{Bare}
-use Rattle.scan.specs.Laws.Ways.{depth-alike, ending-alike, words-alike}
+use Rattle.scan.proofs.Laws.Ways.{depth-alike, ending-alike, words-alike}
 
 -- A buffer that a word was written into.
 module _ (u before : List ℕ) {after : List ℕ} {n : ℕ} (is : after ≡ over u before) (long : n ≡ length u) where

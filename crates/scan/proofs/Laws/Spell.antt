@@ -7,10 +7,11 @@ use mathlib.Core.Path.{◌≡◌, refl, ap, sym, ◌∙◌}
 use mathlib.Core.List.{List, [], ◌∷◌}
 use lib.ListN.{length, get_or, set}
 use lib.Seq.{sets, sets-eq}
-use Rattle.rules.specs.Laws.Tests.{split}
+use Rattle.rules.proofs.Laws.Tests.{split}
 use Rattle.rules.specs.Lists.{over}
 use Rattle.tables.specs.Walks.{ending, depth, lifted}
-use Rattle.tables.specs.Laws.Shape.{Falling, way_step}
+use Rattle.tables.specs.Shape.{Falling}
+use Rattle.tables.proofs.Laws.Shape.{way_step}
 use Rattle.scan.specs.Ways.{paths, Rises, Along, Run}
 
 -- What is left to write of a node's ending: that of `at`, from index n on.

@@ -5,18 +5,17 @@ use mathlib.Core.Path.{◌≡◌, refl, ap, sym, ◌∙◌}
 use mathlib.Core.List.{List, []}
 use mathlib.Core.Option.{Option, some}
 use lib.ListN.{length, get_or}
-use Rattle.rules.specs.Lists.{select}
+use Rattle.rules.specs.Lists.{select, All}
 use Rattle.rules.specs.Rules.{kept, ended, end_round, taken, take_byte}
 use Rattle.rules.specs.Sweep.{recalls}
-use Rattle.rules.specs.Laws.Hits.{end-recalls}
-use Rattle.rules.specs.Laws.All.{All}
-use Rattle.rules.specs.Laws.Remember.{Lies}
+use Rattle.rules.specs.Stretches.{Lies}
+use Rattle.rules.proofs.Laws.Hits.{end-recalls}
 use Rattle.tables.specs.Tables.{Tables}
 use Rattle.tables.specs.Walks.{child_by, depth, carrier, shift_from}
 use Rattle.trie.specs.Answers.{tables, tree_only, child_of}
 use Rattle.trie.specs.declared.Child.{Child}
 use Rattle.trie.specs.declared.Child.TheVariants.{At, Absent}
-use Rattle.trie.specs.Laws.Chain.{along-alike}
+use Rattle.trie.proofs.Laws.Chain.{along-alike}
 use Rattle.scan.specs.declared.Scan.{Scan}
 use Rattle.scan.specs.declared.Stretch.{Stretch as Slot}
 use Rattle.scan.specs.State.{config_of, tree_of, used, laid, max_spared, max_stretches}
@@ -24,11 +23,12 @@ use Rattle.scan.specs.Calls.{sparing, moved, owing, stepped}
 use Rattle.scan.specs.Ways.{paths, marks, Readable, Climbs, Marked}
 use Rattle.scan.specs.Memory.{Ends, remember_by}
 use Rattle.scan.specs.Steps.{Stepping, Ending}
-use Rattle.scan.specs.Laws.Slots.{slots-laid, slots-five}
-use Rattle.scan.specs.Laws.Within.{shift-bounds, Counts}
-use Rattle.scan.specs.Laws.Stay.{first-hit}
-use Rattle.scan.specs.Laws.Ways.{depth-alike, carrier-alike, unbroken-readable, unbroken-marked}
-use Rattle.scan.specs.Laws.Memory.{shift_by, remember-by, within-climbs, within-lies, within-ends}
+use Rattle.scan.specs.Within.{Counts}
+use Rattle.scan.proofs.Laws.Slots.{slots-laid, slots-five}
+use Rattle.scan.proofs.Laws.Within.{shift-bounds}
+use Rattle.scan.proofs.Laws.Stay.{first-hit}
+use Rattle.scan.proofs.Laws.Ways.{depth-alike, carrier-alike, unbroken-readable, unbroken-marked}
+use Rattle.scan.proofs.Laws.Memory.{shift_by, remember-by, within-climbs, within-lies, within-ends}
 
 -- The shift that the code finds in the tables it is lent.
 abbrev pub shift_in : List ℕ → List ℕ → List ℕ → List ℕ → Scan → Option ℕ → ℕ

@@ -6,7 +6,7 @@ use borrow.Author.Tests.{lt-ltb, le-ltb, eq-eqb, ne_eqb}
 use lib.Dec.{ltb, eqb}
 use lib.ListN.{get_or}
 use Rattle.rules.specs.Rules.{Tree, Config, place, stops, recall, look, next}
-use Rattle.rules.specs.Laws.Tests.{or_r}
+use Rattle.rules.proofs.Laws.Tests.{or_r}
 use Rattle.tables.specs.Tables.{Tables}
 use Rattle.scan.specs.declared.Scan.{Scan}
 use Rattle.scan.specs.declared.stretches.Recalled.{Recalled}
@@ -15,7 +15,7 @@ use Rattle.scan.specs.declared.steps.Move.TheVariants.{Finished, Wants, End, Tak
 use Rattle.scan.specs.State.{config_of, tree_of, used}
 use Rattle.scan.specs.Memory.{recalled_of, recall_by}
 use Rattle.scan.specs.Steps.{Chosen}
-use Rattle.scan.specs.Laws.Memory.{recall-by}
+use Rattle.scan.proofs.Laws.Memory.{recall-by}
 
 -- A round that goes on looks at its next place.
 goes_on : {E : Type 0} (tree : Tree E) (n : ℕ) (c : Config E) → ltb n c.boundary ≡ false → stops tree c ≡ false
@@ -30,11 +30,11 @@ module _ (t : Tables) (s : Scan) where
   pub leaf-stops : get_or t.first s.node 0 ≡ 0 → stops (tree_of t s) (config_of s) ≡ true
   leaf-stops h = rw (eq-eqb (get_or t.first s.node 0) 0 h)
 
-  pub full-stops : eqb s.depth s.boundary ≡ true → stops (tree_of t s) (config_of s) ≡ true
-  full-stops h = or_r (eqb (get_or t.first s.node 0) 0) _ (λ _. h)
+  pub full-stops : s.depth ≡ s.boundary → stops (tree_of t s) (config_of s) ≡ true
+  full-stops h = or_r (eqb (get_or t.first s.node 0) 0) _ (λ _. eq-eqb s.depth s.boundary h)
 
-  pub not-stops : (get_or t.first s.node 0 ≡ 0 → ⊥) → eqb s.depth s.boundary ≡ false → stops (tree_of t s) (config_of s) ≡ false
-  not-stops h k = rw (ne_eqb (get_or t.first s.node 0) 0 h, k)
+  pub not-stops : (get_or t.first s.node 0 ≡ 0 → ⊥) → (s.depth ≡ s.boundary → ⊥) → stops (tree_of t s) (config_of s) ≡ false
+  not-stops h k = rw (ne_eqb (get_or t.first s.node 0) 0 h, ne_eqb s.depth s.boundary k)
 
   module _ (i : s.boundary ≤ s.image) where
     pub ends_is : stops (tree_of t s) (config_of s) ≡ true → Chosen t s End

@@ -7,7 +7,7 @@ use lib.ListN.{length, get_or}
 use Rattle.book.specs.Book.{max_body}
 use Rattle.rules.specs.Rules.{Step, Next, finished, wants, goes, place, recalled, end_round, after, take_byte, next}
 use Rattle.rules.specs.Sweep.{recalls}
-use Rattle.rules.specs.Laws.Limit.Ends.{steps_left}
+use Rattle.rules.specs.Configs.{steps_left}
 use Rattle.tables.specs.Tables.{Tables}
 use Rattle.scan.specs.declared.Scan.{Scan}
 use Rattle.scan.specs.declared.Answer.TheVariants.{Fetch, Done}
@@ -18,10 +18,11 @@ use Rattle.scan.specs.Calls.{found, Stepped, sparing, awaiting, owing, told, ste
 use Rattle.scan.specs.Results.{stepped_of}
 use Rattle.scan.specs.Ways.{marks, Marked}
 use Rattle.scan.specs.Steps.{Stepping, Chosen}
-use Rattle.scan.specs.Laws.Ways.{carrier-alike, unbroken-marked}
-use Rattle.scan.specs.Laws.Stay.{WithinNext, next-within}
-use Rattle.scan.specs.Laws.Settle.{on_left}
-use Rattle.scan.specs.Laws.Kept.{StepFor, Goes, step-goes, Ample, ample, settle-enough}
+use Rattle.scan.specs.Within.{Goes}
+use Rattle.scan.proofs.Laws.Ways.{carrier-alike, unbroken-marked}
+use Rattle.scan.proofs.Laws.Stay.{WithinNext, next-within}
+use Rattle.scan.proofs.Laws.Settle.{on_left}
+use Rattle.scan.proofs.Laws.Kept.{StepFor, step-goes, Ample, ample, settle-enough}
 
 -- The state u of a run that began at s.
 pub record Runs (t : Tables) (s u : Scan) : Type 0 where

@@ -11,8 +11,9 @@ use Rattle.scan.specs.State.{config_of, tree_of}
 use Rattle.scan.specs.Calls.{counted, stepped, settle, enough, judged, fed, supply}
 use Rattle.scan.specs.Results.{stepped_of}
 use Rattle.scan.specs.Steps.{Stepping}
-use Rattle.scan.specs.Laws.Settle.{on_judged}
-use Rattle.scan.specs.Laws.Kept.{Goes, none_left, counted-goes, supplied-goes}
+use Rattle.scan.specs.Within.{Goes}
+use Rattle.scan.proofs.Laws.Settle.{on_judged}
+use Rattle.scan.proofs.Laws.Kept.{none_left, counted-goes, supplied-goes}
 
 module _ (t : Tables) (s : Scan) (x : ℕ) (fine : judged t s true ≡ none) (u : Scan) (p : u ≡ counted s) where
   pub counted-steps : Stepping t u

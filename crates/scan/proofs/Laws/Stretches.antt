@@ -10,20 +10,19 @@ use borrow.Author.Tests.{leb-true, ltb-true}
 use lib.Dec.{leb, ltb}
 use lib.ListN.{length, get_or, drop, drop_of_length-le}
 use lib.Seq.{drop-cons}
-use Rattle.rules.specs.Lists.{any_of}
+use Rattle.rules.specs.Lists.{any_of, All}
 use Rattle.rules.specs.Rules.{Stretch}
-use Rattle.rules.specs.Laws.Tests.{passed}
-use Rattle.rules.specs.Laws.All.{All}
+use Rattle.rules.proofs.Laws.Tests.{passed}
 use Rattle.tables.specs.Walks.{depth, lifted}
-use Rattle.tables.specs.Laws.Shape.{way-lifts}
+use Rattle.tables.proofs.Laws.Shape.{way-lifts}
 use Rattle.scan.specs.declared.Stretch.{Stretch as Slot}
 use Rattle.scan.specs.declared.stretches.Holder.{Holder}
 use Rattle.scan.specs.declared.stretches.Holder.TheVariants.{In, Nowhere}
 use Rattle.scan.specs.State.{stretch_of, unused, in_use, used}
 use Rattle.scan.specs.Ways.{paths, Climbs}
 use Rattle.scan.specs.Memory.{covers, holding, holder_of, recall_by, Remembers}
-use Rattle.scan.specs.Laws.Within.{Fits}
-use Rattle.scan.specs.Laws.Ways.{lifted-alike}
+use Rattle.scan.specs.Within.{Fits}
+use Rattle.scan.proofs.Laws.Ways.{lifted-alike}
 use Rattle.scan.proofs.Laws.Spell.{falls}
 
 -- the slot i, and the stretches from there on

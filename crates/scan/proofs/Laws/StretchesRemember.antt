@@ -4,11 +4,12 @@ use native.Mathlib.Omega.{arith}
 use mathlib.Core.Path.{◌≡◌, ap, sym, ◌∙◌}
 use mathlib.Core.Bool.{Bool, true, false}
 use mathlib.Core.List.{List, [], ◌∷◌, ◌++◌, append-nil}
-use Rattle.rules.specs.Lists.{select}
+use Rattle.rules.specs.Lists.{select, All}
 use Rattle.rules.specs.Rules.{Stretch, left_over, cut, kept}
-use Rattle.rules.specs.Laws.All.{All, select-append}
-use Rattle.rules.specs.Laws.Remember.{Lies, staying, new-lies}
-use Rattle.rules.specs.Laws.Limit.Span.{cut-ge}
+use Rattle.rules.specs.Stretches.{Lies, staying}
+use Rattle.rules.proofs.Laws.All.{select-append}
+use Rattle.rules.proofs.Laws.Remember.{new-lies}
+use Rattle.rules.proofs.Laws.Limit.Span.{cut-ge}
 use Rattle.tables.specs.Walks.{depth, lifted}
 use Rattle.scan.specs.declared.Stretch.{Stretch as Slot}
 use Rattle.scan.specs.declared.stretches.Filled.{Filled}

@@ -7,8 +7,9 @@ use mathlib.Core.List.{List, [], ◌∷◌, ◌++◌, append-nil}
 use borrow.Author.Tests.{lt-ltb, le-ltb}
 use lib.ListN.{length, set, length-append}
 use Rattle.rules.specs.Rules.{Stretch, kept}
-use Rattle.rules.specs.Laws.All.{All}
-use Rattle.rules.specs.Laws.Remember.{Lies, stays, staying, staying-one, Stay, stay-done, stay-again}
+use Rattle.rules.specs.Lists.{All}
+use Rattle.rules.specs.Stretches.{Lies, stays, staying}
+use Rattle.rules.proofs.Laws.Remember.{staying-one, Stay, stay-done, stay-again}
 use Rattle.scan.specs.declared.Stretch.{Stretch as Slot}
 use Rattle.scan.specs.declared.stretches.Filled.{Filled}
 use Rattle.scan.specs.State.{stretch_of, slot_of, in_use, used, laid, max_stretches}

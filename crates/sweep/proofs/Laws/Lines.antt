@@ -1,15 +1,11 @@
--- A number's fewest digits are its decimal ones, and what stands behind the first bytes of a buffer.
-use Prim.Native.Nat.{ℕ, zero, suc, ◌+◌, ◌-◌, ◌/◌, ◌%◌, ◌^◌, ◌≤◌, ◌<◌}
+-- A number's fewest digits are its decimal ones, and at most 20.
+use Prim.Native.Nat.{ℕ, zero, suc, ◌-◌, ◌/◌, ◌%◌, ◌^◌, ◌≤◌, ◌<◌}
 use native.Mathlib.Nat.{pow-suc, one-le-pow, pow-le-pow_right}
-use native.Mathlib.Numerals.{add-one}
 use native.Mathlib.Omega.{arith}
-use mathlib.Core.Path.{◌≡◌, refl, ap, sym, ◌∙◌}
+use mathlib.Core.Path.{◌≡◌, refl}
 use mathlib.Core.Bool.{Bool, true, false}
-use mathlib.Core.List.{List, [], ◌∷◌, ◌++◌, append-nil, append_assoc}
 use borrow.Author.Tests.{lt-ltb, le-ltb, leb-true, leb-false}
 use lib.Dec.{leb}
-use lib.ListN.{length, get_or, take, set}
-use lib.Seq.{take-suc, take-suc-set}
 use Rattle.io.specs.Digits.{last_digits, IsDigitCount}
 use Rattle.sweep.specs.Lines.{decimal_by, decimal}
 
@@ -46,17 +42,3 @@ few-by n k h f false e =
 
 pub few-digits : (n k : ℕ) → n < 18446744073709551616 → IsDigitCount 10 1 n k → k ≤ 20
 few-digits n k h f = few-by n k h f (leb k 20) refl
-
-pub none_yet : (out bytes : List ℕ) (at : ℕ) → take (at + 0) out ≡ take at out ++ take 0 bytes
-none_yet out bytes at = let z : at + 0 ≡ at = omega arith in rw (z, append-nil)
-
--- One byte more stands behind the first `at`.
-pub one_more_lem : (start out bytes : List ℕ) (at i : ℕ) → i < length bytes → at + i < length out → take (at + i) out ≡ take at start ++ take i bytes
-    → take (at + (i + 1)) (set out (at + i) (get_or bytes i 0)) ≡ take at start ++ take (i + 1) bytes
-one_more_lem start out bytes at i h l e =
-    let s : at + (i + 1) ≡ suc (at + i) = omega arith in
-    rw (s, add-one i, take-suc-set out (at + i) (get_or bytes i 0) l, e, append_assoc, take-suc bytes i 0 h)
-
--- What stands behind what stands behind p, stands behind p too.
-pub behind : {y z : List ℕ} (p a b : List ℕ) → y ≡ p ++ a → z ≡ y ++ b → z ≡ p ++ (a ++ b)
-behind p a b e f = f ∙ ap (λ l. l ++ b) e ∙ append_assoc p a b

@@ -7,8 +7,8 @@ use mathlib.Core.List.{List}
 use borrow.Author.Tests.{lt-ltb, le-ltb, ltb-true, ltb-false}
 use lib.Dec.{ltb}
 use lib.ListN.{length, take, length-take}
-use Rattle.book.specs.Book.{Verdict, accepted, refused, Totals, read_book, summary}
-use Rattle.book.specs.Laws.Prefix.{needed, enough}
+use Rattle.book.specs.Book.{Verdict, accepted, refused, Totals, read_book, summary, needed}
+use Rattle.book.proofs.Laws.Prefix.{enough}
 use Rattle.sweep.specs.Program.{image_limit, opened, opening}
 
 by-test : (v : Verdict Totals) (m n : ℕ) → ltb image_limit m ≡ ltb image_limit n → opened v m ≡ opened v n

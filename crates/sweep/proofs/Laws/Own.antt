@@ -1,23 +1,18 @@
--- A book that is accepted, the sweep with tables that are long enough for every such book, and what it can answer.
+-- A book that is accepted, and the sweep with tables that are long enough for every such book.
 use Prim.Native.Nat.{ℕ, ◌+◌, ◌≤◌}
 use native.Mathlib.Omega.{arith}
-use mathlib.Core.Path.{◌≡◌, refl, ap, sym, ◌∙◌}
-use mathlib.Core.Bool.{Bool, true, false}
+use mathlib.Core.Path.{◌≡◌, ap, sym, ◌∙◌}
 use mathlib.Core.List.{List}
 use borrow.Author.Tests.{le-ltb}
-use lib.Dec.{ltb}
 use lib.ListN.{length}
 use Rattle.rules.specs.Tokens.{body_bytes}
-use Rattle.book.specs.Book.{Verdict, accepted, refused, totals_of, summary, read_book, max_image}
-use Rattle.book.specs.Answers.{refusal_of, totalled}
+use Rattle.book.specs.Book.{accepted, totals_of, summary, read_book, max_image}
+use Rattle.book.specs.Answers.{totalled}
 use Rattle.book.specs.declared.Totals.{Totals as Sums}
-use Rattle.book.specs.declared.Refusal.{Refusal}
-use Rattle.book.specs.declared.Refusal.TheVariants.{Unfinished, UnknownKind, Trailing, Repeat, OverLimits, NoToken}
-use Rattle.book.specs.Laws.Accepted.{summed, accepted-fit}
+use Rattle.book.proofs.Laws.Accepted.{summed, accepted-fit}
 use Rattle.tables.specs.Tables.{Tables, built, written, shortest_table}
 use Rattle.image.specs.declared.Swept.{Swept as Answer}
 use Rattle.whole.specs.Image.{room, hits_of, fetches_of, spares_of, counted, noted, sweep_image}
-use Rattle.image.specs.declared.Swept.TheVariants.{Unread, TooShort, TooLong}
 use Rattle.image.specs.Results.{swept_of, fetched_of, spared_of}
 use Rattle.image.specs.Rule5.{tokens_in, tokens_of}
 use Rattle.sweep.specs.Program.{Accepted, Known, Answered}
@@ -62,29 +57,3 @@ known book totals e =
       read = s.read ∙ ap accepted (sym t);
       sums = record { count = ap (λ a. a.tokens) sums; bodies = ap (λ a. a.bodies) sums; shortest = ap (λ a. a.shortest) sums; longest = ap (λ a. a.longest) sums };
     }
-
--- Of the refusals it answers 12 alone.
-twelve-by : (k v n : ℕ) (b : Bool) → ◌≡◌ {A = Verdict ℕ} (refused k v) (elim b [ true ↦ refused 12 n | false ↦ accepted n ]) → k ≡ 12
-twelve-by k v n true e = cc
-twelve-by k v n false e = absurd (let z : ◌≡◌ {A = ℕ} 0 1 = cc in omega arith)
-
-book-refusal : (why : Refusal) → (refusal_of why).0 ≤ 6
-book-refusal (Unfinished at) = omega arith
-book-refusal (UnknownKind at) = omega arith
-book-refusal (Trailing at) = omega arith
-book-refusal (Repeat at) = omega arith
-book-refusal (OverLimits at) = omega arith
-book-refusal NoToken = omega arith
-
-module _ {book image : List ℕ} {r : Answer} {ends numbers ends' numbers' : List ℕ} (a : Answered book image r ends numbers ends' numbers') where
-  twelve : (k v : ℕ) → swept_of r ≡ refused k v → k ≡ 12
-  twelve k v e = let n = length (hits_of (tokens_of book) image) in twelve-by k v n (ltb (room ends numbers) n) (sym e ∙ a.answer)
-
-  pub never-unread : (why : Refusal) → r ≡ Unread why → ⊥
-  never-unread why e = omega (arith, book-refusal why, twelve (refusal_of why).0 (refusal_of why).1 (ap swept_of e))
-
-  pub never-short : (n : ℕ) → r ≡ TooShort n → ⊥
-  never-short n e = omega (arith, twelve 7 n (ap swept_of e))
-
-  pub never-long : (n : ℕ) → r ≡ TooLong n → ⊥
-  never-long n e = omega (arith, twelve 8 n (ap swept_of e))

@@ -9,18 +9,18 @@ use lib.Dec.{ltb}
 use lib.ListN.{length, get_or, take, drop, length-map, length-take, length-drop, length-append, get_or-append}
 use lib.Seq.{take_all, take_at}
 use Rattle.rules.specs.Sweep.{Ordered, further}
-use Rattle.rules.specs.Laws.Exact.{happens-exact}
+use Rattle.rules.proofs.Laws.Exact.{happens-exact}
 use Rattle.book.specs.Book.{accepted}
 use Rattle.book.specs.declared.Totals.{Totals as Sums}
-use Rattle.book.specs.Laws.Accepted.{accepted-setting, accepted-longest}
+use Rattle.book.proofs.Laws.Accepted.{accepted-setting, accepted-longest}
 use Rattle.image.specs.declared.Swept.{Swept}
 use Rattle.whole.specs.Image.{room, hits_of, counted, noted}
 use Rattle.image.specs.Results.{swept_of}
 use Rattle.image.specs.Rule5.{tokens_of}
 use Rattle.listing.specs.Parts.{max_hits, max_part, part_from, part_to, between, past, from_at, to_at, part_at}
 use Rattle.sweep.specs.Program.{Known, Answered, pairs, held, Listing}
-use Rattle.listing.specs.Laws.Whole.{select-all}
-use Rattle.listing.specs.Laws.Fits.{part-fits}
+use Rattle.listing.proofs.Laws.Whole.{select-all}
+use Rattle.listing.proofs.Laws.Fits.{part-fits}
 
 -- The hits that end past `at` are all from the first on that does.
 passed-past : (tokens : List (List ℕ)) (from at : ℕ) (l : List (ℕ × ℕ)) (n : ℕ) → Ordered tokens l → n ≤ length l
@@ -98,23 +98,23 @@ module _ (book image : List ℕ) (totals : Sums) (at : ℕ) (known : Known book 
 
     -- 12 does not occur
     hits-is : hits ≡ length found
-    hits-is = number (length found) (of_part.answer ∙ to-all found (room ends numbers) few (length found) few)
+    hits-is = number (length found) (of_part_lem.answer ∙ to-all found (room ends numbers) few (length found) few)
 
     pub hits-fit : (hits ≤ length ends') × (hits ≤ length numbers')
     hits-fit =
-        let e = ap length (of_part.in-ends ∙ noted-front found (room ends numbers) few (λ h. h.0) ends) in
-        let n = ap length (of_part.in-tokens ∙ noted-front found (room ends numbers) few (λ h. h.1) numbers) in (
+        let e = ap length (of_part_lem.in-ends ∙ noted-front found (room ends numbers) few (λ h. h.0) ends) in
+        let n = ap length (of_part_lem.in-tokens ∙ noted-front found (room ends numbers) few (λ h. h.1) numbers) in (
           omega (arith, hits-is, simp length-append at e, length-map found (λ h. h.0)),
           omega (arith, hits-is, simp length-append at n, length-map found (λ h. h.1)),
         )
 
     at-end : (i : ℕ) → i < length found → get_or ends' i 0 ≡ get_or (map (λ h. h.0) found) i 0
-    at-end i l = ap (λ l. get_or l i 0) of_part.in-ends ∙ noted-at found (room ends numbers) few (λ h. h.0) ends i l
+    at-end i l = ap (λ l. get_or l i 0) of_part_lem.in-ends ∙ noted-at found (room ends numbers) few (λ h. h.0) ends i l
 
     holds : held (length found) ends' numbers' ≡ found
     holds =
-        let e = ap (take (length found)) of_part.in-ends ∙ noted-take found (room ends numbers) few (λ h. h.0) ends in
-        let n = ap (take (length found)) of_part.in-tokens ∙ noted-take found (room ends numbers) few (λ h. h.1) numbers in
+        let e = ap (take (length found)) of_part_lem.in-ends ∙ noted-take found (room ends numbers) few (λ h. h.0) ends in
+        let n = ap (take (length found)) of_part_lem.in-tokens ∙ noted-take found (room ends numbers) few (λ h. h.1) numbers in
         ap (λ l. pairs l (take (length found) numbers')) e ∙ ap (pairs (map (λ h. h.0) found)) n ∙ pairs-parts found
 
     pub listing : (before : ℕ) → before ≤ hits

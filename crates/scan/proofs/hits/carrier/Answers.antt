@@ -1,0 +1,7 @@
+use Rattle.scan.proofs.Laws.Hits.{nears-on, nears-above}
+use Rattle.scan.proofs.hits.carrier.Goals as goal
+
+pub loop-at-preserved : goal.loop-at-preserved
+loop-at-preserved c = let i = c.loop-at.invariant in
+    let r = c.bare_end-end.ensures in
+    (i.0, nears-above i.0 (nears-on i.1 r.0) r.1 c.if-token-end-ne0.false _ c.wide-at.ensures)

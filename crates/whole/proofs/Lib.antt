@@ -1,0 +1,2 @@
+-- Samples that the checker computes.
+pub mod Examples
