@@ -139,7 +139,7 @@ pub extern "C" fn probe_walk(
 // The state is lent as numbers, and the next one laid over them.
 #[unsafe(no_mangle)]
 pub extern "C" fn probe_start(state: &mut [usize], n: usize, shortest: usize, nodes: usize) -> Told
-    ensures { record { state = state.exit.now; told = result } ≡ start_in (start n shortest nodes) state.entry.now }
+    ensures { record { state = state.new; told = result } ≡ start_in (start n shortest nodes) state.old }
 {
     if state.len() < states::NUMBERS {
         return states::no_state();
@@ -162,7 +162,7 @@ pub extern "C" fn probe_carry_on(
     shift: &[u16],
 ) -> Told
     ensures { let t = tables parent.now label.now token.now first.now next.now shift.now in
-        record { state = state.exit.now; told = result } ≡ step_in (λ s. none_used (carry_on t s)) state.entry.now }
+        record { state = state.new; told = result } ≡ step_in (λ s. none_used (carry_on t s)) state.old }
 {
     if states::is_state(state) {
         let scan = states::state_in(state);
@@ -185,7 +185,7 @@ pub extern "C" fn probe_supply(
     byte: u8,
 ) -> Told
     ensures { let t = tables parent.now label.now token.now first.now next.now shift.now in
-        record { state = state.exit.now; told = result } ≡ step_in (λ s. none_used (supply t s byte)) state.entry.now }
+        record { state = state.new; told = result } ≡ step_in (λ s. none_used (supply t s byte)) state.old }
 {
     if states::is_state(state) {
         let scan = states::state_in(state);
@@ -208,7 +208,7 @@ pub extern "C" fn probe_packet(
     bytes: &[u8],
 ) -> Told
     ensures { let t = tables parent.now label.now token.now first.now next.now shift.now in
-        record { state = state.exit.now; told = result } ≡ step_in (λ s. supply_packet t s bytes.now) state.entry.now }
+        record { state = state.new; told = result } ≡ step_in (λ s. supply_packet t s bytes.now) state.old }
 {
     if states::is_state(state) {
         let scan = states::state_in(state);

@@ -9,9 +9,10 @@ fn words(reason: &str) -> &str {
     }
 }
 
-// What failed, and the reason.
+// What failed, and the reason; where there is no memory for the words alone, with the number behind them.
 pub fn say(rt: &(impl Eprint + AllocGlobal), what: &str, why: &Error) {
-    if let Ok(reason) = format!(in rt.alloc(); "{why}") {
-        let _ = eprintln!(rt; "sweep: {what}: {}", words(&reason));
-    }
+    let _ = match format!(in rt.alloc(); "{why}") {
+        Ok(reason) => eprintln!(rt; "sweep: {what}: {}", words(&reason)),
+        Err(_) => eprintln!(rt; "sweep: {what}: {why}"),
+    };
 }

@@ -54,9 +54,7 @@ lies-too image e t u w l =
 
 module _ (book : List ℕ) (tokens : List (List ℕ)) (read : read_book book ≡ accepted tokens) (image : List ℕ) where
   token-is : (i : ℕ) → 1 ≤ i → i ≤ length tokens → token_in book i ≡ get_or tokens (i - 1) []
-  token-is i h k =
-      ap (λ p. elim p [ found at n ↦ take n (drop at book) | missing ↦ [] | unread k v ↦ [] ]) (accepted-place book tokens read i h k)
-      ∙ accepted-body book tokens read i h k
+  token-is i h k = rw (accepted-place book tokens read i h k, token_in) (accepted-body book tokens read i h k)
 
   -- A hit, with its token's bytes.
   record Hit (h : ℕ × ℕ) : Type 0 where

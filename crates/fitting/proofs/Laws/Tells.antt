@@ -3,7 +3,7 @@ use Rattle.std.specs.Prelude.{ℕ, ◌+◌, ◌-◌, ◌≤◌, ◌<◌, ◌≡�
 use Rattle.std.proofs.Common.{arith, ap, sym, ◌∙◌, eqb-true, leb-true, le-leb, le-ltb, ltb-true, ltb-false, length-take-le, get_or-take}
 use Rattle.std.proofs.Math.Option.{some, none}
 use Rattle.std.proofs.lemmas.Bool.{eqb-false, not-true, not-false}
-use Rattle.rules.specs.Tokens.{from_right, agrees}
+use Rattle.rules.specs.Tokens.{from_right, agrees, mismatch}
 use Rattle.rules.specs.Configs.{byte_of, Reads}
 use Rattle.rules.proofs.Laws.Tests.{decide, clash, split, and_l, and_r}
 use Rattle.rules.proofs.Laws.Fits.{agrees-past, agrees-over, first-cases}
@@ -75,35 +75,35 @@ module _ (t image : List ℕ) (end : ℕ) (inside : end ≤ length image) where
 
   tells : Tells t image end (fit_at t image end)
   tells = first-cases (length (take end image)) (λ k. not (test k))
-      (λ o. Tells t image end (elim o [ some k ↦ differs (end - 1 - k) | none ↦ elim (ltb end (length t)) [ true ↦ cut_off | false ↦ fits ] ]))
-      none-differs one-differs
+      (λ o. mismatch (take end image) t 0 ≡ o → Tells t image end (fit_at t image end))
+      (λ f e. rw (e, fit_at) (decide (Tells t image end) _ cut_off fits
+      (λ l. is_cut f (omega (arith, ltb-true _ _ l)))
+      (λ l. is_whole f (omega (arith, ltb-false _ _ l)))))
+      (λ k h f x e. rw (e, fit_at) (one-differs k h f x))
+      refl
     where
-      none-differs : ((k : ℕ) → k < length (take end image) → not (test k) ≡ false)
-          → Tells t image end (elim (ltb end (length t)) [ true ↦ cut_off | false ↦ fits ])
-      none-differs f = decide (Tells t image end) (ltb end (length t)) cut_off fits is_cut is_whole
-        where
-          same : (p : ℕ) → Over t image end p → SameAt t image end p
-          same p o = passes p o (not-false _ (f (end - 1 - p) (omega (arith, known))))
+      same : ((k : ℕ) → k < length (take end image) → not (test k) ≡ false) → (p : ℕ) → Over t image end p → SameAt t image end p
+      same f p o = passes p o (not-false _ (f (end - 1 - p) (omega (arith, known))))
 
-          is_cut : ltb end (length t) ≡ true → Tells t image end cut_off
-          is_cut l = let short = ltb-true end (length t) l in record {
-            fits-if = λ i. absurd (omega (arith, i.0));
-            fits-only = λ e. let z = ap kind e in absurd (omega arith);
-            differs-there = λ p e. let z = ap kind e in absurd (omega arith);
-            same-right = λ p e. let z = ap kind e in absurd (omega arith);
-            cut-if = λ _ _. refl;
-            cut-only = λ _. (short, same);
-          }
+      is_cut : ((k : ℕ) → k < length (take end image) → not (test k) ≡ false) → end < length t → Tells t image end cut_off
+      is_cut f short = record {
+        fits-if = λ i. absurd (omega (arith, i.0));
+        fits-only = λ e. let z = ap kind e in absurd (omega arith);
+        differs-there = λ p e. let z = ap kind e in absurd (omega arith);
+        same-right = λ p e. let z = ap kind e in absurd (omega arith);
+        cut-if = λ _ _. refl;
+        cut-only = λ _. (short, same f);
+      }
 
-          is_whole : ltb end (length t) ≡ false → Tells t image end fits
-          is_whole l = let long = ltb-false end (length t) l in record {
-            fits-if = λ _. refl;
-            fits-only = λ _. all_same long same;
-            differs-there = λ p e. let z = ap kind e in absurd (omega arith);
-            same-right = λ p e. let z = ap kind e in absurd (omega arith);
-            cut-if = λ short _. absurd (omega arith);
-            cut-only = λ e. let z = ap kind e in absurd (omega arith);
-          }
+      is_whole : ((k : ℕ) → k < length (take end image) → not (test k) ≡ false) → length t ≤ end → Tells t image end fits
+      is_whole f long = record {
+        fits-if = λ _. refl;
+        fits-only = λ _. all_same long (same f);
+        differs-there = λ p e. let z = ap kind e in absurd (omega arith);
+        same-right = λ p e. let z = ap kind e in absurd (omega arith);
+        cut-if = λ short _. absurd (omega arith);
+        cut-only = λ e. let z = ap kind e in absurd (omega arith);
+      }
 
       one-differs : (k : ℕ) → k < length (take end image) → ((j : ℕ) → j < k → not (test j) ≡ false) → not (test k) ≡ true
           → Tells t image end (differs (end - 1 - k))

@@ -43,6 +43,10 @@ module _ (first second out : List ℕ) where
     pub second-refused : (k v : ℕ) → refused k v ≡ summary (read_book second) → record { answer = second_bad k; out = out } ≡ merge first second out
     second-refused k v e = cc (s.read, refused_as (read_book second) k v e)
 
+    -- the number as the code has it
+    pub second-told : (k v n : ℕ) → refused k v ≡ summary (read_book second) → n ≡ k → record { answer = second_bad n; out = out } ≡ merge first second out
+    second-told k v n e q = rw q (second-refused k v e)
+
     pub joined : (others : Sums) → Summed second others → (m : Merging) → m ≡ join (bodies_in first) (bodies_in second) out
         → m ≡ merge first second out
     joined others u m e = rw (bodies-are s, bodies-are u) at e ∙ cc (s.read, u.read)

@@ -2,7 +2,7 @@
 use mathlib.Core.Path.{ap, sym, ◌∙◌}
 use Rattle.book.specs.Answers.{refusal_of, totalled, verdict_of}
 use Rattle.book.proofs.Laws.Accepted.{Summed, summed}
-use Rattle.merge.proofs.Laws.Merge.{books, first-refused, second-refused, joined}
+use Rattle.merge.proofs.Laws.Merge.{books, first-refused, second-told, joined}
 use Rattle.merge.proofs.merge.Goals as goal
 use Rattle.merge.proofs.merge.Goals.{In-Accepted, In-Accepted-read}
 
@@ -28,9 +28,8 @@ pub returns-in-Refused-read : goal.returns-in-Refused-read
 returns-in-Refused-read c =
     let a = c.args in
     let p = goal.at.returns-in-Refused-read c in
-    rw c.numbered.ensures.0
-    (second-refused a.first.now a.second.now a.out.now _ (first-summed p.In-Accepted) _ (refusal_of c.in-Refused-read.why).1
-    (ap verdict_of (sym c.in-Refused-read.is) ∙ c.read-in-Accepted.ensures))
+    second-told a.first.now a.second.now a.out.now _ (first-summed p.In-Accepted) _ (refusal_of c.in-Refused-read.why).1 _
+    (ap verdict_of (sym c.in-Refused-read.is) ∙ c.read-in-Accepted.ensures) c.numbered.ensures.0
 
 pub returns-in-Accepted-read : goal.returns-in-Accepted-read
 returns-in-Accepted-read c =

@@ -8,7 +8,7 @@ use Rattle.tables.specs.Tables.{Tables}
 use Rattle.scan.specs.declared.Scan.{Scan}
 use Rattle.scan.specs.State.{config_of, tree_of}
 use Rattle.scan.specs.Calls.{over, settle, enough, judged, carry_on}
-use Rattle.scan.proofs.Laws.Settle.{on_next, on_left, on_judged}
+use Rattle.scan.proofs.Laws.Settle.{on_judged}
 
 pub done-stays : (t : Tables) (s : Scan) → judged t s false ≡ none → s.image < s.boundary → s.hit ≡ 0
     → carry_on t s ≡ record { state = s; answer = over }
@@ -18,4 +18,4 @@ done-stays t s e h z = ap (on_judged s (settle t (enough s) s)) e ∙ settles (e
     settles zero k = absurd (omega arith)
     settles (suc fuel) k =
         let ends : next (tree_of t s) s.image (config_of s) ≡ finished = cc (lt-ltb s.image s.boundary h) in
-        ap (on_left t fuel s (next (tree_of t s) s.image (config_of s))) z ∙ ap (on_next t fuel s) ends
+        rw (z, settle) (rw (ends, settle) (ap (λ h. record { state = record { image = s.image; shortest = s.shortest; count = s.count; boundary = s.boundary; node = s.node; depth = s.depth; stretches = s.stretches; supplied = s.supplied; spared = s.spared; due = s.due; end = s.end; hit = h }; answer = over }) z))

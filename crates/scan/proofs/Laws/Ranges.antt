@@ -32,3 +32,10 @@ pub range-same : (t : Tables) (s : Scan)
     ≡ (count_ok s && image_ok s && shortest_ok s && node_ok (paths t.parent []) s && boundary_ok s && supplied_ok s && spared_ok s
     && stretches_ok (paths t.parent []) s && due_ok (tree_only [] [] [] t.first []) s && left_ok (marks t.parent t.token) s)
 range-same t s = rw (depth_same t s.node, rising-same t s 0 (used s.stretches), due-same t s, left-same t s) refl
+
+-- Where all tests but the last are passed, the last one tells.
+pub range-last : (t : Tables) (s : Scan) {left : Bool} → count_ok s ≡ true → image_ok s ≡ true → shortest_ok s ≡ true
+    → node_ok (paths t.parent []) s ≡ true → boundary_ok s ≡ true → supplied_ok s ≡ true → spared_ok s ≡ true
+    → stretches_ok (paths t.parent []) s ≡ true → due_ok (tree_only [] [] [] t.first []) s ≡ true → left ≡ left_ok (marks t.parent t.token) s
+    → left ≡ in_range t s
+range-last t s a b c d e f g h i l = l ∙ sym (range-same t s ∙ rw (a, b, c, d, e, f, g, h, i) refl)
