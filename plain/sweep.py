@@ -1,6 +1,6 @@
 #!/usr/bin/env python3
 """Runs the program `sweep` in folders of its own and compares what it prints, line by line, with a plain search, the bytes fetched and
-spared with the reading rules, round by round, and refusals with tables.py; also where reads give few bytes at a time, and where one fails.
+spared with the reading rules, round by round, and refusals with tables.py; also where reads give few bytes at a time, where one fails, and where there is no memory.
 On small images the search and the rounds are compared with the steps of steps.py. Fails at the first difference. Wants crates/sweep/out/sweep
 (`rt run` in crates/sweep) and gcc."""
 import errno
@@ -58,6 +58,16 @@ ssize_t read(int file, void *bytes, size_t n) {
 }
 """
 ALL = 1 << 40  # more bytes than any file has
+
+# In the place of the C library's calls for memory: there is none.
+NO_MEMORY = r"""
+#include <stddef.h>
+
+void *malloc(size_t n) { return NULL; }
+void *calloc(size_t n, size_t size) { return NULL; }
+void *realloc(void *old, size_t n) { return NULL; }
+void *aligned_alloc(size_t align, size_t n) { return NULL; }
+"""
 
 
 def search(bodies, image):
@@ -153,16 +163,16 @@ def place(path, content):
         path.write_bytes(content)
 
 
-def reader(folder):
-    """A library that stands before the C library and has `read` of its own."""
-    source, library = pathlib.Path(folder, "read.c"), pathlib.Path(folder, "read.so")
-    source.write_text(READ)
+def before(folder, name, text):
+    """A library that stands before the C library and has calls of its own."""
+    source, library = pathlib.Path(folder, name + ".c"), pathlib.Path(folder, name + ".so")
+    source.write_text(text)
     subprocess.run(["gcc", "-O1", "-Wall", "-Werror", "-shared", "-fPIC", "-o", library, source], check=True)
     return library
 
 
 def reads(library, file, most, good, error):
-    """What tells `reader`'s library how to read."""
+    """What tells the library made of `READ` how to read."""
     return {
         "LD_PRELOAD": str(library), "READ_FILE": file, "READ_MOST": str(most), "READ_GOOD": str(good), "READ_ERROR": str(error),
     }
@@ -197,18 +207,23 @@ def compare(name, book, image, env=None):
             fail(name, f"line {i + 1} is {a!r}, wanted {b!r}")
 
 
-def unread(name, book, image, file, error, env=None):
+def reason(error, dry):
+    """The operating system's words; where there is no memory, with the number behind them."""
+    return os.strerror(error) + (f" (os error {error})" if dry else "")
+
+
+def unread(name, book, image, file, error, env=None, dry=False):
     """A read of `file` fails: there is no line, and the error output names the file and says why."""
     done = run(book, image, env=env)
-    if done.returncode or done.stdout or done.stderr.decode() != f"sweep: cannot read {file}: {os.strerror(error)}\n":
+    if done.returncode or done.stdout or done.stderr.decode() != f"sweep: cannot read {file}: {reason(error, dry)}\n":
         fail(name, "it ended with", done.returncode, done.stdout[:100], done.stderr)
 
 
-def unwritten(name, book, image):
+def unwritten(name, book, image, env=None, dry=False):
     """No line can be written: the error output says so once."""
     with open("/dev/full", "w") as full:
-        done = run(book, image, full)
-    if done.returncode or done.stderr.decode() != f"sweep: not all lines could be written: {os.strerror(errno.ENOSPC)}\n":
+        done = run(book, image, full, env)
+    if done.returncode or done.stderr.decode() != f"sweep: not all lines could be written: {reason(errno.ENOSPC, dry)}\n":
         fail(name, "it ended with", done.returncode, done.stderr)
 
 
@@ -377,11 +392,18 @@ def main():
             count += 1
     with tempfile.TemporaryDirectory() as folder:
         os.chmod(folder, 0o755)
-        library = reader(folder)
+        library = before(folder, "read", READ)
         for case in short(library):
             compare(*case)
             count += 1
         failed = [unread(*case) for case in failing(library)]
+        env = {"LD_PRELOAD": str(before(folder, "no_memory", NO_MEMORY))}
+        compare("no memory, and none is needed", BOOK, b"cccaxbbx", env)
+        count += 1
+        for case in no_room():
+            unwritten(*case, env, dry=True)
+        for book, image, file in (BOOK, MEMORY, "image.bin"), (MEMORY, b"cccaxbbx", "book.bin"):
+            unread(f"{file} fails at once, and there is no memory", book, image, file, errno.EIO, env, dry=True)
     full = [unwritten(*case) for case in no_room()]
     print(f"sweep: {count} books and images, {len(failed)} reads that fail, and {len(full)} with no room for output:", end=" ")
     print("all lines are the plain search's")
