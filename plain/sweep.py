@@ -1,8 +1,8 @@
 #!/usr/bin/env python3
 """Runs the program `sweep` in folders of its own and compares what it prints, line by line, with a plain search, the bytes fetched and
-spared with the reading rules, round by round, and refusals with tables.py; also where reads give few bytes at a time, where one fails, and where there is no memory.
-On small images the search and the rounds are compared with the steps of steps.py. Fails at the first difference. Wants crates/sweep/out/sweep
-(`rt run` in crates/sweep) and gcc."""
+spared with the reading rules, round by round, and refusals with tables.py; also where reads give few bytes at a time, where one fails, and
+where there is no memory. On small images the search and the rounds are compared with the steps of steps.py. Fails at the first difference.
+Wants crates/sweep/out/sweep (`rt run` in crates/sweep) and gcc."""
 import errno
 import os
 import pathlib
