@@ -1,19 +1,11 @@
 -- `sweep_image` meets its contract: by what `refuse`, building and the sweep answer.
-use Prim.Native.Nat.{◌≤◌}
 use mathlib.Core.Path.{ap, sym, ◌∙◌}
-use lib.ListN.{length}
-use Rattle.book.specs.Book.{max_image}
 use Rattle.book.specs.Answers.{refusal_of}
 use Rattle.trie.specs.Answers.{tables, answer_of}
 use Rattle.tables.specs.Tables.{Sizes}
 use Rattle.image.specs.Results.{swept_of, fetched_of, spared_of}
 use Rattle.image.proofs.Laws.SweepImage.{Built, answer-long, answer-refused, is-built, built-given, answer-built}
 use Rattle.image.proofs.sweep_image.Goals as goal
-use Rattle.image.proofs.sweep_image.Goals.{In-Made}
-
--- Where the book was taken the image is within its limit.
-within : (c : In-Made) → length c.args.image.now ≤ max_image
-within c = c.if-image-gt-IMAGE.false
 
 pub returns-then-image-gt-IMAGE : goal.returns-then-image-gt-IMAGE
 returns-then-image-gt-IMAGE c =
@@ -35,7 +27,7 @@ sweep-found-requires c =
     let stand : Built c.args.book.now lent left sized =
     is-built c.args.book.now lent left sized
     (ap (λ r. record { answer = answer_of r; tables = left }) (sym c.in-Made.is) ∙ c.build.ensures) in
-    record { given = built-given c.args.image.now stand (within (goal.at.sweep-found-requires c).In-Made) }
+    record { given = built-given c.args.image.now stand c.if-image-gt-IMAGE.false }
 
 pub returns-in-Unread : goal.returns-in-Unread
 returns-in-Unread c =
@@ -70,7 +62,7 @@ returns-in-Made c =
     is-built c.args.book.now lent left sized
     (ap (λ r. record { answer = answer_of r; tables = left }) (sym c.in-Made.is) ∙ c.build.ensures) in
     let a = c.args in
-    answer-built a.image.now stand (within (goal.at.returns-in-Made c).In-Made) a.ends.now a.tokens.now
+    answer-built a.image.now stand c.if-image-gt-IMAGE.false a.ends.now a.tokens.now
     c.sweep-found.ensures.hits c.sweep-found.ensures.fetched c.sweep-found.ensures.spared c.sweep-found.ensures.ends c.sweep-found.ensures.tokens c.least.ensures
     (swept_of c.answer.result) (fetched_of c.answer.result) (spared_of c.answer.result)
     c.answer.ensures.0 c.answer.ensures.1 c.answer.ensures.2
