@@ -1,10 +1,9 @@
 -- Samples of rule 5 for one word, "axbbx".
-use Rattle.std.specs.Prelude.{ℕ, ◌≡◌, refl, List, [], ◌∷◌}
+use Rattle.std.specs.Prelude.{ℕ, ◌≡◌, refl, List, [], ◌∷◌, Some, None}
 use Rattle.std.proofs.Math.Option.{some, none}
+use Rattle.rules.specs.Options.{option_of}
 use Rattle.rules.specs.Lists.{least}
 use Rattle.agree.specs.Tests.{byte_test, least_of}
-use Rattle.agree.specs.Answers.{tested_of}
-use Rattle.agree.specs.declared.Tested.TheVariants.{Fits, Differs}
 
 abbrev axbbx : List ℕ
 axbbx = 97 ∷ 120 ∷ 98 ∷ 98 ∷ 120 ∷ []
@@ -28,5 +27,5 @@ of_two : least_of (byte_test 0 120) (axbbx ∷ (120 ∷ 98 ∷ 120 ∷ []) ∷ [
 of_two = refl
 
 -- Each case of the test's answer.
-cases-told : tested_of Fits ∷ tested_of (Differs 9) ∷ [] ≡ none ∷ some 9 ∷ []
+cases-told : option_of None ∷ option_of (Some 9) ∷ [] ≡ none ∷ some 9 ∷ []
 cases-told = refl

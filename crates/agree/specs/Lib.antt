@@ -1,3 +1,2 @@
--- Rule 5 for one word: its tests and what the code answers.
+-- Rule 5 for one word: its tests.
 pub mod Tests
-pub mod Answers

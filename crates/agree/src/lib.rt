@@ -5,45 +5,36 @@ ghost use Rattle.std.specs.Prelude.{◌-◌, ◌≡◌};
 ghost use Rattle.rules.specs.Lists.{least};
 ghost use Rattle.rules.specs.Tokens.{mismatch, fits};
 ghost use Rattle.agree.specs.Tests.{byte_test};
-ghost use Rattle.agree.specs.Answers.{tested_of};
+ghost use Rattle.rules.specs.Options.{option_of};
 
-// What the test of a word against known bytes answers: it fits, or it differs at the place with so many known bytes right of it, and at none
-// of these.
-#[derive(Clone, Copy)]
-pub enum Tested {
-    Fits,
-    Differs(usize),
-}
-
-// Tests the word, moved s to the right, against the known bytes, from the right. It fits where they do not overlap.
-pub fn mismatch(body: &[u8], s: usize, known: &[u8]) -> Tested
-    ensures { tested_of result ≡ mismatch known.now body.now s }
+// Tests the word, moved s to the right, against the known bytes, from the right: how many known bytes lie right of the first difference, or
+// none where it fits. It fits where they do not overlap.
+pub fn mismatch(body: &[u8], s: usize, known: &[u8]) -> Option<usize>
+    ensures { option_of result ≡ mismatch known.now body.now s }
 {
     if body.len() <= s {
-        return Tested::Fits;
+        return None;
     }
     let left = body.len() - s;
+    // By an index: `rev`, `zip` and `position`, tried and proved, made sweeps with many byte shifts slower by up to two fifths.
     let mut k = 0;
     while k < known.len() {
         if left <= k {
-            return Tested::Fits;
+            return None;
         }
         if body[left - 1 - k] != known[known.len() - 1 - k] {
-            return Tested::Differs(k);
+            return Some(k);
         }
         k += 1;
     }
-    Tested::Fits
+    None
 }
 
 // Whether it fits them.
 fn fits(body: &[u8], s: usize, known: &[u8]) -> bool
     ensures { result ≡ fits known.now body.now s }
 {
-    match mismatch(body, s, known) {
-        Tested::Fits => true,
-        Tested::Differs(_) => false,
-    }
+    mismatch(body, s, known).is_none()
 }
 
 // The smallest s from 1 below `best` at which the word fits the byte x left of `depth` matched ones; `best` where there is none, and 1 where
@@ -56,6 +47,7 @@ pub fn byte_least(body: &[u8], depth: usize, x: u8, best: usize) -> usize
     }
     let left = &body[..body.len() - depth];
     let known = [x];
+    // By hand, as a `find` over the range was slower too.
     let mut s = 1;
     while s < best {
         if fits(left, s, &known[..]) {

@@ -1,11 +1,10 @@
 -- Samples of refused books, a table for each cause: the cause alone, and beside others so that their order is pinned. And of places of tokens,
 -- of the bodies of a book, of a book's bytes, and of the marks of bodies.
-use Rattle.std.specs.Prelude.{ℕ, suc, ◌≡◌, refl, Bool, true, false, ◌&&◌, List, [], ◌∷◌, ◌++◌, eqb, length, replicate}
+use Rattle.std.specs.Prelude.{ℕ, suc, ◌≡◌, refl, Bool, true, false, ◌&&◌, List, [], ◌∷◌, ◌++◌, eqb, length, replicate, Some, None, Ok, Err}
 use Rattle.book.specs.Book.{Reading, accepted, refused, too_long, refusal_in, found, missing, unread, place_in, bodies_in, read_from, read_book, summary}
 use Rattle.book.specs.Bytes.{kind_of, book_of}
 use Rattle.book.specs.Filter.{hash, is_marked, marked, Covers}
 use Rattle.book.specs.declared.Refusal.TheVariants.{Unfinished, UnknownKind, Trailing, Repeat, OverLimits, NoToken}
-use Rattle.book.specs.declared.Place.TheVariants.{Found, Missing, Unread}
 use Rattle.book.specs.Answers.{refusal_of, place_of}
 
 -- A book that is read on from its first byte, with the tokens before it, and the refusal.
@@ -139,7 +138,7 @@ unread-right : (let book = read_book (1 ∷ 97 ∷ 1 ∷ 97 ∷ 0 ∷ []) in pla
 unread-right = refl
 
 -- Each case of a place has its numbers.
-places-told : place_of (Found 7 5) ∷ place_of Missing ∷ place_of (Unread (Repeat 9)) ∷ [] ≡ found 7 5 ∷ missing ∷ unread 4 9 ∷ []
+places-told : place_of (Ok (Some (record { at = 7; size = 5 }))) ∷ place_of (Ok None) ∷ place_of (Err (Repeat 9)) ∷ [] ≡ found 7 5 ∷ missing ∷ unread 4 9 ∷ []
 places-told = refl
 
 -- The bodies of a book that breaks off, of one that goes on behind its 00h, of one with a kind above 44h, and of an empty one.

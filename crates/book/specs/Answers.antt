@@ -1,15 +1,12 @@
 -- What the code's answers say in document 01's numbers.
-use Rattle.std.specs.Prelude.{ℕ, ◌≡◌, List, length}
+use Rattle.std.specs.Prelude.{ℕ, ◌≡◌, List, length, Option, Some, None, Result, Ok, Err}
 use Rattle.rules.specs.Tokens.{body_bytes, shortest_of, longest_of}
 use Rattle.book.specs.Book.{Verdict, accepted, refused, Place, found, missing, unread}
 use Rattle.book.specs.Book as book
 use Rattle.book.specs.declared.Refusal.{Refusal}
 use Rattle.book.specs.declared.Refusal.TheVariants.{Unfinished, UnknownKind, Trailing, Repeat, OverLimits, NoToken}
 use Rattle.book.specs.declared.Totals.{Totals}
-use Rattle.book.specs.declared.Reading.{Reading}
-use Rattle.book.specs.declared.Reading.TheVariants.{Accepted, Refused}
 use Rattle.book.specs.declared.Place.{Place as Spot}
-use Rattle.book.specs.declared.Place.TheVariants.{Found, Missing, Unread}
 
 -- each refusal's number and value
 abbrev pub refusal_of : Refusal → ℕ × ℕ
@@ -31,11 +28,11 @@ pub record Amounts (t : Totals) (tokens : List (List ℕ)) : Type 0 where
   pub shortest : t.shortest ≡ shortest_of tokens
   pub longest : t.longest ≡ longest_of tokens
 
-abbrev pub verdict_of : Reading → Verdict book.Totals
-verdict_of (Accepted t) = accepted (totalled t)
-verdict_of (Refused r) = refused (refusal_of r).0 (refusal_of r).1
+abbrev pub verdict_of : Result Totals Refusal → Verdict book.Totals
+verdict_of (Ok t) = accepted (totalled t)
+verdict_of (Err r) = refused (refusal_of r).0 (refusal_of r).1
 
-abbrev pub place_of : Spot → Place
-place_of (Found at n) = found at n
-place_of Missing = missing
-place_of (Unread why) = unread (refusal_of why).0 (refusal_of why).1
+abbrev pub place_of : Result (Option Spot) Refusal → Place
+place_of (Ok (Some p)) = found p.at p.size
+place_of (Ok None) = missing
+place_of (Err why) = unread (refusal_of why).0 (refusal_of why).1

@@ -3,8 +3,6 @@
 ghost use Rattle.std.specs.Prelude.{◌≡◌, ◌<◌};
 ghost use Rattle.book.specs.Filter.{marks, hash, is_marked, marked};
 
-use crate::sums::less;
-
 const MARKS: usize = 1024;
 
 // A cell holds 64 marks.
@@ -13,24 +11,16 @@ pub const CELLS: usize = MARKS / 64;
 // A hash is made of at most so many bytes at each end.
 const NEAR: usize = 8;
 
-fn wide(byte: u8) -> usize
-    ensures { (result ≡ byte) × (result < 256) }
-{
-    byte as usize
-}
-
 // A number below 1,024, from the body's length and at most eight pairs of its bytes, from both ends inwards: reversing the bytes does not
 // change it.
 pub fn hash(body: &[u8]) -> usize
     ensures { (result ≡ hash body.now) × (result < marks) }
 {
-    let pairs = less(NEAR, body.len() - body.len() / 2);
+    let pairs = NEAR.min(body.len() - body.len() / 2);
     let mut sum = body.len() % MARKS;
-    let mut i = 0;
-    while i < pairs {
+    for i in 0..pairs {
         let opposite = body.len() - 1 - i;
-        sum = (37 * sum + wide(body[i]) + wide(body[opposite])) % MARKS;
-        i += 1;
+        sum = (37 * sum + usize::from(body[i]) + usize::from(body[opposite])) % MARKS;
     }
     sum
 }

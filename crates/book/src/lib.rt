@@ -2,7 +2,7 @@
 #![tactic(auto)]
 
 mod filter;
-mod records;
+pub mod records;
 mod repeats;
 mod sums;
 pub mod words;
@@ -14,7 +14,7 @@ ghost use Rattle.book.specs.Book.{whole_at, bodies_in, closed, read_book, summar
 ghost use Rattle.book.specs.Answers.{Amounts, refusal_of, verdict_of, place_of};
 
 use filter::CELLS;
-use records::body_length;
+use records::{Bodies, body_length};
 use repeats::repeated;
 use words::{is_word, weight};
 
@@ -84,7 +84,7 @@ impl Refusal {
 }
 
 // How many tokens there are, all body bytes (those of all words), S and D.
-#[derive(Clone, Copy)]
+#[derive(Clone, Copy, Default)]
 pub struct Totals {
     pub tokens: usize,
     pub bodies: usize,
@@ -92,21 +92,14 @@ pub struct Totals {
     pub longest: usize,
 }
 
+// Where a token's body stands, and how many bytes it has.
 #[derive(Clone, Copy)]
-pub enum Reading {
-    Accepted(Totals),
-    Refused(Refusal),
+pub struct Place {
+    pub at: usize,
+    pub size: usize,
 }
 
-// Place and length of a token's body; or the token is not in the book; or the book's refusal.
-#[derive(Clone, Copy)]
-pub enum Place {
-    Found(usize, usize),
-    Missing,
-    Unread(Refusal),
-}
-
-// The body's length of the record at `at`, or 0 where no whole record with a body stands there.
+// The body's length of the record at `at`, or 0 where no whole record with a body stands there (no `Option`: C's `probe_body_at` answers 0).
 pub fn body_at(book: &[u8], at: usize) -> usize
     ensures { result ≡ whole_at book.now at }
 {
@@ -125,55 +118,51 @@ pub fn body_at(book: &[u8], at: usize) -> usize
     size
 }
 
+// The bodies of the records that follow one another from the book's start, where they stand.
+pub fn bodies(book: &[u8]) -> Bodies<'_>
+    ensures { result ≡ bodies_in book.now }
+{
+    Bodies::new(book)
+}
+
 // Whether this body is a word of one of the records that follow one another from the book's start. The bytes are compared where they stand.
 pub fn contains(book: &[u8], body: &[u8]) -> bool
     ensures { result ≡ any_of (is_word body.now) (bodies_in book.now) }
 {
-    let mut at = 0;
-    loop {
-        let size = body_at(book, at);
-        if size == 0 {
-            return false;
-        }
-        let start = at + 1;
-        let end = start + size;
-        if is_word(body, &book[start..end]) {
-            return true;
-        }
-        at = end;
-    }
+    bodies(book).any(|other| is_word(body, other))
 }
 
 // Whether the book is accepted, and what its tokens amount to.
-pub fn read(book: &[u8]) -> Reading
+pub fn read(book: &[u8]) -> Result<Totals, Refusal>
     ensures { verdict_of result ≡ summary (read_book book.now) }
 {
     let mut at = 0;
-    let mut totals = Totals::none();
+    let mut totals = Totals::default();
     let mut filter = [0u64; CELLS];
+    // Not through `bodies`: what ends them is refused by its place.
     loop {
         if book.len() <= at {
-            return Reading::Refused(Refusal::Unfinished(book.len()));
+            return Err(Refusal::Unfinished(book.len()));
         }
         let kind = book[at];
         if 0x44 < kind {
-            return Reading::Refused(Refusal::UnknownKind(at));
+            return Err(Refusal::UnknownKind(at));
         }
         if kind == 0 {
             return finish(book, at, totals);
         }
         let size = body_length(kind);
         if book.len() - at - 1 < size {
-            return Reading::Refused(Refusal::Unfinished(at));
+            return Err(Refusal::Unfinished(at));
         }
-        let start = at + 1;
-        let end = start + size;
-        let bytes = weight(&book[start..end]);
+        let end = at + 1 + size;
+        let body = &book[at + 1..end];
+        let bytes = weight(body);
         if totals.over(bytes) {
-            return Reading::Refused(Refusal::OverLimits(at));
+            return Err(Refusal::OverLimits(at));
         }
-        if repeated(book, at, size, &mut filter) {
-            return Reading::Refused(Refusal::Repeat(at));
+        if repeated(&book[..at], body, &mut filter) {
+            return Err(Refusal::Repeat(at));
         }
         totals = totals.with(size, bytes);
         at = end;
@@ -181,38 +170,34 @@ pub fn read(book: &[u8]) -> Reading
 }
 
 // After 00h at place `at`: 3, then 6.
-fn finish(book: &[u8], at: usize, totals: Totals) -> Reading
+fn finish(book: &[u8], at: usize, totals: Totals) -> Result<Totals, Refusal>
     requires { at < length book.now }
     ensures { (ts : List (List ℕ)) → Amounts totals ts → verdict_of result ≡ summary (closed book.now at ts) }
 {
     if at + 1 < book.len() {
-        return Reading::Refused(Refusal::Trailing(at + 1));
+        return Err(Refusal::Trailing(at + 1));
     }
     if totals.tokens == 0 {
-        return Reading::Refused(Refusal::NoToken);
+        return Err(Refusal::NoToken);
     }
-    Reading::Accepted(totals)
+    Ok(totals)
 }
 
-// Where the body of token number `i`, from 1, stands: past the records before it.
-pub fn token(book: &[u8], i: usize) -> Place
+// Where the body of token number `i`, from 1, stands: past the records before it. None if the book has no such token.
+pub fn token(book: &[u8], i: usize) -> Result<Option<Place>, Refusal>
     ensures { place_of result ≡ place_in (read_book book.now) i }
 {
-    let totals = match read(book) {
-        Reading::Refused(why) => return Place::Unread(why),
-        Reading::Accepted(t) => t,
-    };
-    if i == 0 {
-        return Place::Missing;
+    let totals = read(book)?;
+    if i == 0 || totals.tokens < i {
+        return Ok(None);
     }
-    if totals.tokens < i {
-        return Place::Missing;
-    }
+    // Not through `bodies`: the place is asked.
     let mut at = 0;
-    let mut passed = 0;
-    while passed + 1 < i {
+    for _ in 1..i {
         at += 1 + body_at(book, at);
-        passed += 1;
     }
-    Place::Found(at + 1, body_at(book, at))
+    Ok(Some(Place {
+        at: at + 1,
+        size: body_at(book, at),
+    }))
 }

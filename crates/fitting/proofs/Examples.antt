@@ -1,11 +1,12 @@
 -- Samples: a token laid over an image, each kind of answer; and each refusal alone and before those that come later.
-use Rattle.std.specs.Prelude.{ℕ, ◌≡◌, List, [], ◌∷◌, map, length}
+use Rattle.std.specs.Prelude.{ℕ, ◌≡◌, Ok, Err, List, [], ◌∷◌, map, length}
 use Rattle.std.proofs.Math.Path.{refl}
 use Rattle.book.specs.Book.{Verdict, accepted, refused, read_book}
 use Rattle.book.specs.declared.Refusal.TheVariants.{Repeat}
 use Rattle.fitting.specs.Fitting.{Fit, fits, differs, cut_off, fit_at, fit_in}
 use Rattle.fitting.specs.Answers.{fitting_of}
-use Rattle.fitting.specs.declared.Fitting.TheVariants.{Fits, Differs, CutOff, Unread, TooLong, NotInBook, BeyondImage}
+use Rattle.fitting.specs.declared.stands.Fit.TheVariants.{Fits, Differs, CutOff}
+use Rattle.fitting.specs.declared.Refusal.TheVariants.{Unread, TooLong, NotInBook, BeyondImage}
 
 -- "axbbx", and "cccaxbbx"
 axbbx : List ℕ
@@ -90,6 +91,6 @@ module _ (full : List ℕ) (e : length full ≡ 16777216) where
   limit-right = rw (e, fit_in) refl
 
 -- Each case of the answer.
-cases-told : map fitting_of (Fits ∷ Differs 9 ∷ CutOff ∷ Unread (Repeat 9) ∷ TooLong 9 ∷ NotInBook ∷ BeyondImage ∷ [])
+cases-told : map fitting_of (Ok Fits ∷ Ok (Differs 9) ∷ Ok CutOff ∷ Err (Unread (Repeat 9)) ∷ Err (TooLong 9) ∷ Err NotInBook ∷ Err BeyondImage ∷ [])
     ≡ accepted fits ∷ accepted (differs 9) ∷ accepted cut_off ∷ refused 4 9 ∷ refused 8 9 ∷ refused 16 0 ∷ refused 17 0 ∷ []
 cases-told = refl

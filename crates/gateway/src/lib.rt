@@ -1,15 +1,17 @@
-// What the gateway's C calls: building and the sweep of a whole image, with numbers for the answers.
+// What the gateway's C calls: building and the sweep of a whole image, with numbers for the answers. Tables come as six slices, and
+// the hit buffers as two, as C has them.
 #![tactic(auto)]
 
 mod sweeps;
 
 ghost use Rattle.std.specs.Prelude.{◌≡◌};
 ghost use Rattle.tables.specs.Tables.{build};
-ghost use Rattle.trie.specs.Answers.{tables, answer_of};
+ghost use Rattle.trie.specs.Answers.{tables};
 ghost use Rattle.whole.specs.Image.{sweep_image};
 ghost use Rattle.gateway.specs.Numbers.{built_of, swept_of};
 
-use trie::Building;
+use image::HitsMut;
+use trie::{Refusal, Sizes, TablesMut};
 
 // The sizes of built tables, or a refusal's number and value; 0 for what there is not.
 #[repr(C)]
@@ -34,25 +36,33 @@ pub struct Swept {
 }
 
 // What building answers, in numbers.
-fn numbers(made: Building) -> Built
-    ensures { result ≡ built_of (answer_of made) }
-{
-    let why = made.numbered();
-    match made {
-        Building::Made(sizes) => Built {
-            refusal: 0,
-            value: 0,
-            nodes: sizes.nodes as u64,
-            shortest: sizes.shortest as u64,
-            longest: sizes.longest as u64,
-        },
-        _ => Built {
-            refusal: why.number as u64,
-            value: why.value as u64,
-            nodes: 0,
-            shortest: 0,
-            longest: 0,
-        },
+impl From<Result<Sizes, Refusal>> for Built {
+    ghost use Rattle.std.specs.Prelude.{◌≡◌};
+    ghost use Rattle.trie.specs.Answers.{answer_of};
+    ghost use Rattle.gateway.specs.Numbers.{built_of};
+
+    ghost from_gives = { λ made built. built ≡ built_of (answer_of made) };
+
+    fn from(made: Result<Sizes, Refusal>) -> Self {
+        match made {
+            Ok(sizes) => Built {
+                refusal: 0,
+                value: 0,
+                nodes: sizes.nodes as u64,
+                shortest: sizes.shortest as u64,
+                longest: sizes.longest as u64,
+            },
+            Err(why) => {
+                let why = why.numbered();
+                Built {
+                    refusal: why.number as u64,
+                    value: why.value as u64,
+                    nodes: 0,
+                    shortest: 0,
+                    longest: 0,
+                }
+            }
+        }
     }
 }
 
@@ -72,7 +82,15 @@ pub extern "C" fn lonnatchi_build(
         (result ≡ built_of made.answer)
         × (tables parent.new label.new token.new first.new next.new shift.new ≡ made.tables) }
 {
-    numbers(trie::build(book, parent, label, token, first, next, shift))
+    let mut tables = TablesMut {
+        parent,
+        label,
+        token,
+        first,
+        next,
+        shift,
+    };
+    Built::from(trie::build(book, &mut tables))
 }
 
 // The tables and the hit buffers as the sweep leaves them, and its answer in numbers.
@@ -96,7 +114,14 @@ pub extern "C" fn lonnatchi_sweep(
         × (tables parent.new label.new token.new first.new next.new shift.new ≡ made.tables)
         × (ends.new ≡ made.ends) × (tokens.new ≡ made.tokens) }
 {
-    sweeps::numbers(image::sweep_image(
-        book, image, parent, label, token, first, next, shift, ends, tokens,
-    ))
+    let mut tables = TablesMut {
+        parent,
+        label,
+        token,
+        first,
+        next,
+        shift,
+    };
+    let mut hits = HitsMut { ends, tokens };
+    Swept::from(image::sweep_image(book, image, &mut tables, &mut hits))
 }

@@ -1,33 +1,36 @@
--- Samples of what the enum's cases say, the number of hits or the refusal, and the bytes fetched and spared; of a round and its hits; and of
+-- Samples of what the answers say, the number of hits or the refusal, and the bytes fetched and spared; of a round and its hits; and of
 -- stretches by their places.
-use Rattle.std.specs.Prelude.{ℕ, ◌≡◌, refl, List, [], ◌∷◌}
+use Rattle.std.specs.Prelude.{ℕ, ◌≡◌, refl, List, [], ◌∷◌, Ok, Err}
 use Rattle.std.proofs.Math.Option.{some, none}
 use Rattle.rules.specs.Tokens.{of_tokens}
 use Rattle.book.specs.Book.{accepted, refused}
 use Rattle.book.specs.declared.Refusal.TheVariants.{Repeat}
+use Rattle.trie.specs.Answers.{tree_only}
 use Rattle.image.specs.declared.Found.{Found}
-use Rattle.image.specs.declared.Swept.TheVariants.{Whole, Unread, TooShort, TooLong, TooMany}
+use Rattle.image.specs.declared.Refusal.TheVariants.{Unread, TooShort, TooLong, TooMany}
+use Rattle.image.specs.declared.spans.Span.{Span}
 use Rattle.image.specs.Results.{swept_of, fetched_of, spared_of}
 use Rattle.image.specs.Rounds.{Reached, reached, met}
-use Rattle.image.specs.Walk.{tree_in, newest, notes}
-use Rattle.image.specs.Spans.{Places, spans_of, in_use, renewed}
+use Rattle.image.specs.Hits.{notes}
+use Rattle.image.specs.Walk.{tree_in, newest}
+use Rattle.image.specs.Spans.{Places, in_use, renewed}
 
 abbrev found : Found
 found = record { hits = 5; fetched = 40; spared = 6 }
 
-cases-told : swept_of (Whole found) ∷ swept_of (Unread (Repeat 3)) ∷ swept_of (TooShort 3) ∷ swept_of (TooLong 3) ∷ swept_of (TooMany found) ∷ []
+cases-told : swept_of (Ok found) ∷ swept_of (Err (Unread (Repeat 3))) ∷ swept_of (Err (TooShort 3)) ∷ swept_of (Err (TooLong 3)) ∷ swept_of (Err (TooMany found)) ∷ []
     ≡ accepted 5 ∷ refused 4 3 ∷ refused 7 3 ∷ refused 8 3 ∷ refused 12 5 ∷ []
 cases-told = refl
 
-fetches-told : fetched_of (Whole found) ∷ fetched_of (TooShort 3) ∷ fetched_of (TooMany found) ∷ [] ≡ 40 ∷ 0 ∷ 40 ∷ []
+fetches-told : fetched_of (Ok found) ∷ fetched_of (Err (TooShort 3)) ∷ fetched_of (Err (TooMany found)) ∷ [] ≡ 40 ∷ 0 ∷ 40 ∷ []
 fetches-told = refl
 
-spares-told : spared_of (Whole found) ∷ spared_of (TooLong 3) ∷ spared_of (TooMany found) ∷ [] ≡ 6 ∷ 0 ∷ 6 ∷ []
+spares-told : spared_of (Ok found) ∷ spared_of (Err (TooLong 3)) ∷ spared_of (Err (TooMany found)) ∷ [] ≡ 6 ∷ 0 ∷ 6 ∷ []
 spares-told = refl
 
 -- A round before place 3, over the nodes "", "c", "bc", "abc" with these tokens.
 abbrev round : List ℕ → List ℕ → Reached ℕ
-round token image = reached (tree_in (0 ∷ 99 ∷ 98 ∷ 97 ∷ []) token (1 ∷ 2 ∷ 3 ∷ 0 ∷ []) (0 ∷ 0 ∷ 0 ∷ 0 ∷ []) 4) image 3
+round token image = reached (tree_in (tree_only [] (0 ∷ 99 ∷ 98 ∷ 97 ∷ []) token (1 ∷ 2 ∷ 3 ∷ 0 ∷ []) (0 ∷ 0 ∷ 0 ∷ 0 ∷ [])) 4) image 3
 
 -- In "abc" it comes to "abc", a token itself; in "xbc" to "bc", and "c" is the longest token then, or "bc", or there is none.
 to-token : round (0 ∷ 1 ∷ 2 ∷ 3 ∷ []) (97 ∷ 98 ∷ 99 ∷ []) ≡ record { node = 3; depth = 3; closing = none; tokens = 3 ∷ 2 ∷ 1 ∷ [] }
@@ -57,8 +60,11 @@ newest-first = refl
 abbrev stretch : ℕ → ℕ → Places
 stretch l r = record { left = l; right = r; node = tt }
 
+abbrev slot : ℕ → ℕ → Span
+slot l r = record { left = l; right = r }
+
 -- Two stretches in use, of three.
-two-in-use : in_use (spans_of (1 ∷ 4 ∷ 7 ∷ []) (3 ∷ 6 ∷ 9 ∷ []) 2) ≡ stretch 1 3 ∷ stretch 4 6 ∷ []
+two-in-use : in_use (record { slots = slot 1 3 ∷ slot 4 6 ∷ slot 7 9 ∷ []; used = 2 }) ≡ stretch 1 3 ∷ stretch 4 6 ∷ []
 two-in-use = refl
 
 -- A round matched the places from 10 up to 30 and shifts by 5: its stretch is kept, and one that ends at 8 is too short by then.

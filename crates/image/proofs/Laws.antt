@@ -12,7 +12,6 @@ pub mod Tables
 pub mod RoundByRound
 pub mod ShortRounds
 pub mod Spans
-pub mod SpansLoose
 pub mod SpansHold
 pub mod WalkChildren
 pub mod Walk

@@ -1,35 +1,46 @@
 -- What the sweep of an image answers, as the definitions have it.
-use Rattle.std.specs.Prelude.{ℕ, ◌+◌, true, false, List}
+use Rattle.std.specs.Prelude.{ℕ, ◌+◌, true, false, List, Result, Ok, Err}
 use Rattle.rules.specs.Tokens.{body_bytes}
 use Rattle.book.specs.Book.{Verdict, accepted, refused, read_book, max_image}
-use Rattle.book.specs.Answers.{refusal_of}
+use Rattle.book.specs.Answers as book
 use Rattle.tables.specs.Tables.{Tables, too_short}
-use Rattle.image.specs.declared.Swept.{Swept}
-use Rattle.image.specs.declared.Swept.TheVariants.{Whole, Unread, TooShort, TooLong, TooMany}
+use Rattle.trie.specs.declared.Refusal.{Refusal as Unbuilt}
+use Rattle.trie.specs.declared.Refusal.TheVariants as trie
+use Rattle.image.specs.declared.Found.{Found}
+use Rattle.image.specs.declared.Refusal.{Refusal}
+use Rattle.image.specs.declared.Refusal.TheVariants.{Unread, TooShort, TooLong, TooMany}
+
+-- each refusal's number and value
+abbrev pub refusal_of : Refusal → ℕ × ℕ
+refusal_of (Unread why) = book.refusal_of why
+refusal_of (TooShort room) = (7, room)
+refusal_of (TooLong most) = (8, most)
+refusal_of (TooMany found) = (12, found.hits)
+
+-- why tables were not built, as a refusal of the sweep
+abbrev pub unbuilt : Unbuilt → Refusal
+unbuilt (trie.Unread why) = Unread why
+unbuilt (trie.TooShort room) = TooShort room
 
 -- the number of hits, or the refusal
-abbrev pub swept_of : Swept → Verdict ℕ
-swept_of (Whole found) = accepted found.hits
-swept_of (Unread why) = refused (refusal_of why).0 (refusal_of why).1
-swept_of (TooShort room) = refused 7 room
-swept_of (TooLong most) = refused 8 most
-swept_of (TooMany found) = refused 12 found.hits
+abbrev pub swept_of : Result Found Refusal → Verdict ℕ
+swept_of (Ok found) = accepted found.hits
+swept_of (Err why) = refused (refusal_of why).0 (refusal_of why).1
 
--- the number of bytes fetched
-abbrev pub fetched_of : Swept → ℕ
-fetched_of (Whole found) = found.fetched
-fetched_of (Unread why) = 0
-fetched_of (TooShort room) = 0
-fetched_of (TooLong most) = 0
-fetched_of (TooMany found) = found.fetched
+-- the number of bytes fetched, and of those taken from stretches
+abbrev pub fetched_of : Result Found Refusal → ℕ
+fetched_of (Ok found) = found.fetched
+fetched_of (Err (Unread why)) = 0
+fetched_of (Err (TooShort room)) = 0
+fetched_of (Err (TooLong most)) = 0
+fetched_of (Err (TooMany found)) = found.fetched
 
--- the number of bytes taken from stretches
-abbrev pub spared_of : Swept → ℕ
-spared_of (Whole found) = found.spared
-spared_of (Unread why) = 0
-spared_of (TooShort room) = 0
-spared_of (TooLong most) = 0
-spared_of (TooMany found) = found.spared
+abbrev pub spared_of : Result Found Refusal → ℕ
+spared_of (Ok found) = found.spared
+spared_of (Err (Unread why)) = 0
+spared_of (Err (TooShort room)) = 0
+spared_of (Err (TooLong most)) = 0
+spared_of (Err (TooMany found)) = found.spared
 
 -- What is refused when the image is over its limit: 1 to 6, 7, 8.
 abbrev pub refusal_for : List ℕ → Tables → Verdict ℕ

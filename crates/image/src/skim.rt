@@ -3,7 +3,7 @@ ghost use Rattle.std.specs.Prelude.{ℕ, ◌^◌, ◌≤◌, ◌<◌, ◌≡◌,
 ghost use Rattle.book.specs.Book.{max_body};
 ghost use Rattle.image.specs.Sweeping.{Cached, Four, Paired, Skimmable, Skimmed};
 
-use trie::entries::wide;
+use crate::caches::Caches;
 
 // How far such rounds lead, and how many bytes they looked at.
 #[derive(Clone, Copy)]
@@ -12,126 +12,125 @@ pub struct Skipped {
     pub looks: usize,
 }
 
-// The shift of a round at boundary b that ends at its first byte, 0 where it is not known.
-fn skip_at(image: &[u8], skip: &[u16], b: usize) -> usize
-    requires { (1 ≤ b) × (b ≤ length image.now) × (length skip.now ≡ 256) }
-    ensures { Cached image.now skip.now b result × (result ≤ 65535) }
-{
-    wide(skip[image[b - 1] as usize])
-}
-
 // Tokens longer than this have nearly every byte, so that few rounds shift by as much as the shortest.
 const SHORT: usize = 255;
 
-// Whether four rounds from b on shift by the shortest token's length each: no look waits for the one before.
-fn full(image: &[u8], skip: &[u16], b: usize, shortest: usize) -> bool
-    requires numbers { (1 ≤ b) × (b ≤ 2 ^ 32) × (shortest ≤ max_body) × (length skip.now ≡ 256) }
-    requires upto { (b by : ℕ) → Cached image.now skip.now b by → by ≤ shortest }
-    ensures { result ≡ true → Four image.now skip.now b shortest }
-{
-    if SHORT < shortest {
-        return false;
+impl Caches {
+    // The shift of a round at boundary b that ends at its first byte, 0 where it is not known: plain numbers, since `full` adds four of
+    // them at a time.
+    fn skip_at(&self, image: &[u8], b: usize) -> usize
+        requires { (1 ≤ b) × (b ≤ length image.now) }
+        ensures { Cached image.now self.now b result × (result ≤ 65535) }
+    {
+        usize::from(self.skip[usize::from(image[b - 1])])
     }
-    if image.len() < b + 3 * shortest {
-        return false;
-    }
-    let near = skip_at(image, skip, b) + skip_at(image, skip, b + shortest);
-    let far = skip_at(image, skip, b + 2 * shortest) + skip_at(image, skip, b + 3 * shortest);
-    near + far == 4 * shortest
-}
 
-// Four at a time, as often as they come one after the other.
-fn stride(b: usize, image: &[u8], skip: &[u16], pairs: &[u16], shortest: usize) -> Skipped
-    requires { Skimmable image.now skip.now pairs.now shortest b 0 }
-    ensures { Skimmed image.now skip.now pairs.now shortest b 0 result }
-{
-    let mut at = b;
-    let mut looks = 0;
-    while full(image, skip, at, shortest) {
-        at += 4 * shortest;
-        looks += 4;
+    // Whether four rounds from b on shift by the shortest token's length each: no look waits for the one before. Four named looks and not
+    // a chain over them: speed was measured here.
+    fn full(&self, image: &[u8], b: usize, shortest: usize) -> bool
+        requires numbers { (1 ≤ b) × (b ≤ 2 ^ 32) × (shortest ≤ max_body) }
+        requires upto { (b by : ℕ) → Cached image.now self.now b by → by ≤ shortest }
+        ensures { result ≡ true → Four image.now self.now b shortest }
+    {
+        if SHORT < shortest {
+            return false;
+        }
+        if image.len() < b + 3 * shortest {
+            return false;
+        }
+        let near = self.skip_at(image, b) + self.skip_at(image, b + shortest);
+        let far = self.skip_at(image, b + 2 * shortest) + self.skip_at(image, b + 3 * shortest);
+        near + far == 4 * shortest
     }
-    Skipped {
-        boundary: at,
-        looks,
-    }
-}
 
-// The shift of a round at boundary b that ends at its second byte, 0 where it is not known.
-fn pair_at(image: &[u8], pairs: &[u16], b: usize) -> usize
-    requires { (1 ≤ b) × (b ≤ length image.now) × (length pairs.now ≡ 65536) }
-    ensures { ((result ≡ 0 → ⊥) → Paired image.now pairs.now b result) × (result ≤ 65535) }
-{
-    if b < 2 {
-        return 0;
+    // Four at a time, as often as they come one after the other.
+    fn stride(&self, b: usize, image: &[u8], shortest: usize) -> Skipped
+        requires { Skimmable image.now self.now shortest b 0 }
+        ensures { Skimmed image.now self.now shortest b 0 result }
+    {
+        let mut at = b;
+        let mut looks = 0;
+        // By hand: a turn goes on where four rounds led.
+        while self.full(image, at, shortest) {
+            at += 4 * shortest;
+            looks += 4;
+        }
+        Skipped {
+            boundary: at,
+            looks,
+        }
     }
-    wide(pairs[256 * (image[b - 2] as usize) + image[b - 1] as usize])
-}
 
-// The next of such rounds, or some of them at once; no look where there is none.
-fn hop(b: usize, image: &[u8], skip: &[u16], pairs: &[u16], shortest: usize) -> Skipped
-    requires { Skimmable image.now skip.now pairs.now shortest b 0 × (b ≤ length image.now) }
-    ensures { Skimmed image.now skip.now pairs.now shortest b 0 result × ((result.looks ≡ 0 → ⊥) → b < result.boundary) }
-{
-    let by = skip_at(image, skip, b);
-    if by == 0 {
-        let two = pair_at(image, pairs, b);
-        if two == 0 {
+    // The shift of a round at boundary b that ends at its second byte, 0 where it is not known, as in `skip_at`.
+    fn pair_at(&self, image: &[u8], b: usize) -> usize
+        requires { (1 ≤ b) × (b ≤ length image.now) }
+        ensures { ((result ≡ 0 → ⊥) → Paired image.now self.now b result) × (result ≤ 65535) }
+    {
+        if b < 2 {
+            return 0;
+        }
+        usize::from(self.pairs[256 * usize::from(image[b - 2]) + usize::from(image[b - 1])])
+    }
+
+    // The next of such rounds, or some of them at once; no look where there is none.
+    fn hop(&self, b: usize, image: &[u8], shortest: usize) -> Skipped
+        requires { Skimmable image.now self.now shortest b 0 × (b ≤ length image.now) }
+        ensures { Skimmed image.now self.now shortest b 0 result × ((result.looks ≡ 0 → ⊥) → b < result.boundary) }
+    {
+        let by = self.skip_at(image, b);
+        if by == 0 {
+            let two = self.pair_at(image, b);
+            if two == 0 {
+                return Skipped {
+                    boundary: b,
+                    looks: 0,
+                };
+            }
+            return Skipped {
+                boundary: b + two,
+                looks: 2,
+            };
+        }
+        let on = self.stride(b + by, image, shortest);
+        Skipped {
+            boundary: on.boundary,
+            looks: 1 + on.looks,
+        }
+    }
+
+    // As many such rounds as come one after the other.
+    fn skim(&self, b: usize, image: &[u8], shortest: usize) -> Skipped
+        requires { Skimmable image.now self.now shortest b 0 }
+        ensures { Skimmed image.now self.now shortest b 0 result }
+    {
+        let mut at = b;
+        let mut looks = 0;
+        // By hand: a turn goes on where the round before it led.
+        while at <= image.len() {
+            let on = self.hop(at, image, shortest);
+            if on.looks == 0 {
+                break;
+            }
+            at = on.boundary;
+            looks += on.looks;
+        }
+        Skipped {
+            boundary: at,
+            looks,
+        }
+    }
+
+    // Where something is remembered, no round is skimmed.
+    pub fn ahead(&self, b: usize, used: usize, image: &[u8], shortest: usize) -> Skipped
+        requires { Skimmable image.now self.now shortest b used }
+        ensures { Skimmed image.now self.now shortest b used result }
+    {
+        if used != 0 {
             return Skipped {
                 boundary: b,
                 looks: 0,
             };
         }
-        return Skipped {
-            boundary: b + two,
-            looks: 2,
-        };
+        self.skim(b, image, shortest)
     }
-    let on = stride(b + by, image, skip, pairs, shortest);
-    Skipped {
-        boundary: on.boundary,
-        looks: 1 + on.looks,
-    }
-}
-
-// As many such rounds as come one after the other.
-fn skim(b: usize, image: &[u8], skip: &[u16], pairs: &[u16], shortest: usize) -> Skipped
-    requires { Skimmable image.now skip.now pairs.now shortest b 0 }
-    ensures { Skimmed image.now skip.now pairs.now shortest b 0 result }
-{
-    let mut at = b;
-    let mut looks = 0;
-    while at <= image.len() {
-        let on = hop(at, image, skip, pairs, shortest);
-        if on.looks == 0 {
-            break;
-        }
-        at = on.boundary;
-        looks += on.looks;
-    }
-    Skipped {
-        boundary: at,
-        looks,
-    }
-}
-
-// Where something is remembered, no round is skimmed.
-pub fn ahead(
-    b: usize,
-    used: usize,
-    image: &[u8],
-    skip: &[u16],
-    pairs: &[u16],
-    shortest: usize,
-) -> Skipped
-    requires { Skimmable image.now skip.now pairs.now shortest b used }
-    ensures { Skimmed image.now skip.now pairs.now shortest b used result }
-{
-    if used != 0 {
-        return Skipped {
-            boundary: b,
-            looks: 0,
-        };
-    }
-    skim(b, image, skip, pairs, shortest)
 }

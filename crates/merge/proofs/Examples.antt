@@ -1,12 +1,11 @@
 -- Samples of merging: the book that is written, and each refusal alone and in its order.
-use Rattle.std.specs.Prelude.{ℕ, ◌≡◌, refl, true, false, List, [], ◌∷◌, ◌++◌, map, replicate}
+use Rattle.std.specs.Prelude.{ℕ, ◌≡◌, refl, true, false, Ok, Err, List, [], ◌∷◌, ◌++◌, map, replicate}
 use Rattle.book.specs.Book.{accepted, refused, read_book}
 use Rattle.book.specs.declared.Refusal.TheVariants.{Repeat}
 use Rattle.merge.specs.Merge.{Answer, wrote, first_bad, second_bad, limits_passed, no_room, verdict, Merging, join, merge}
 use Rattle.merge.specs.Answers.{answer_of}
 use Rattle.merge.specs.Steps.{if_wanted, placed, judged}
-use Rattle.merge.specs.declared.survey.Fit.TheVariants.{Over, Needs}
-use Rattle.merge.specs.declared.Merging.TheVariants.{Written, Unread, SecondUnread, OverLimits, TooShort}
+use Rattle.merge.specs.declared.Refusal.TheVariants.{Unread, SecondUnread, OverLimits, TooShort}
 
 -- "b" and "aa"; "a", "aa" and "c"
 abbrev north : List ℕ
@@ -133,7 +132,7 @@ numbers-told : map verdict (wrote 9 ∷ first_bad 4 9 ∷ second_bad 4 ∷ limit
     ≡ accepted 9 ∷ refused 4 9 ∷ refused 13 4 ∷ refused 5 9 ∷ refused 14 9 ∷ []
 numbers-told = refl
 
-cases-told : map answer_of (Written 9 ∷ Unread (Repeat 9) ∷ SecondUnread 4 ∷ OverLimits 9 ∷ TooShort 9 ∷ [])
+cases-told : map answer_of (Ok 9 ∷ Err (Unread (Repeat 9)) ∷ Err (SecondUnread 4) ∷ Err (OverLimits 9) ∷ Err (TooShort 9) ∷ [])
     ≡ wrote 9 ∷ first_bad 4 9 ∷ second_bad 4 ∷ limits_passed 9 ∷ no_room 9 ∷ []
 cases-told = refl
 
@@ -142,5 +141,5 @@ placed-right : placed (sevens 5) 2 (if_wanted true (8 ∷ 9 ∷ [])) ∷ placed 
     ≡ (7 ∷ 7 ∷ 8 ∷ 9 ∷ 7 ∷ []) ∷ sevens 5 ∷ []
 placed-right = refl
 
-judged-right : judged (letters 256) more ∷ judged (letters 1) ((97 ∷ []) ∷ (98 ∷ []) ∷ []) ∷ [] ≡ Over 0 ∷ Needs 5 ∷ []
+judged-right : judged (letters 256) more ∷ judged (letters 1) ((97 ∷ []) ∷ (98 ∷ []) ∷ []) ∷ [] ≡ Err (OverLimits 0) ∷ Ok 5 ∷ []
 judged-right = refl

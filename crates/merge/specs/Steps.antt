@@ -1,12 +1,13 @@
 -- What the steps of merging hand to one another: two books that can be merged, which tokens of the second are new, and whether they fit.
-use Rattle.std.specs.Prelude.{ℕ, ◌+◌, ◌<◌, ◌≡◌, Bool, true, false, List, [], ◌++◌, length, get_or, take, drop}
+use Rattle.std.specs.Prelude.{ℕ, ◌+◌, ◌<◌, ◌≡◌, Bool, true, false, Result, Ok, Err, List, [], ◌++◌, length, get_or, take, drop}
 use Rattle.rules.specs.Tokens.{body_bytes}
 use Rattle.book.specs.Book.{record_place, bodies_in}
 use Rattle.book.specs.Bytes.{book_of}
 use Rattle.book.specs.declared.Totals.{Totals}
 use Rattle.merge.specs.Merge.{lacks, merged, too_large, fitting, over_limits}
-use Rattle.merge.specs.declared.survey.Fit.{Fit}
-use Rattle.merge.specs.declared.survey.Fit.TheVariants.{Over, Needs}
+use Rattle.merge.specs.declared.Refusal.{Refusal}
+use Rattle.merge.specs.declared.Refusal.TheVariants.{OverLimits}
+use Rattle.merge.specs.declared.survey.Marked.{Marked}
 
 -- Two books within the limits, of which the first is made of its bodies and has these totals.
 pub record Books (first second : List ℕ) (totals : Totals) : Type 0 where
@@ -21,17 +22,22 @@ abbrev pub Marks : List (List ℕ) → List (List ℕ) → List Bool → Type 0
 Marks tokens others marks = (i : ℕ) → i < length others → get_or marks i false ≡ lacks tokens (get_or others i [])
 
 -- 5, or the length of the merged book.
-abbrev pub judged : List (List ℕ) → List (List ℕ) → Fit
+abbrev pub judged : List (List ℕ) → List (List ℕ) → Result ℕ Refusal
 judged tokens others =
     elim (over_limits tokens others) [
-      | true ↦ Over (record_place others (fitting tokens others))
-      | false ↦ Needs (length (book_of (merged tokens others)))
+      | true ↦ Err (OverLimits (record_place others (fitting tokens others)))
+      | false ↦ Ok (length (book_of (merged tokens others)))
     ]
 
+-- the length that a survey found
+abbrev pub needed : Result Marked Refusal → Result ℕ Refusal
+needed (Ok m) = Ok m.length
+needed (Err why) = Err why
+
 -- What a survey finds: whether the others fit, and where they do, which the tokens lack.
-pub record Surveyed (tokens others : List (List ℕ)) (marks : List Bool) (fit : Fit) : Type 0 where
-  pub fits : fit ≡ judged tokens others
-  pub tells : over_limits tokens others ≡ false → Marks tokens others marks
+pub record Surveyed (tokens others : List (List ℕ)) (found : Result Marked Refusal) : Type 0 where
+  pub fits : needed found ≡ judged tokens others
+  pub tells : (m : Marked) → found ≡ Ok m → Marks tokens others m.marks
 
 -- the bytes, if they are wanted
 abbrev pub if_wanted : Bool → List ℕ → List ℕ

@@ -3,27 +3,22 @@ ghost use Rattle.std.specs.Prelude.{◌≡◌, ◌||◌, ltb};
 ghost use Rattle.book.specs.Book.{max_tokens, max_bodies, bodies_in};
 ghost use Rattle.merge.specs.Steps.{Books, Surveyed};
 
+use crate::Refusal;
 use book::words::weight;
 use book::{Book, Totals};
 
-// 5, with the record's place in the second book; or the length of the merged book.
-#[derive(Clone, Copy)]
-pub enum Fit {
-    Over(usize),
-    Needs(usize),
-}
-
-// For each token of the second book whether the first lacks it, up to where the limits are passed.
+// For each token of the second book whether the first lacks it, and the length of the merged book.
 #[derive(Clone, Copy)]
 pub struct Marked {
     pub marks: [bool; Book::TOKENS],
-    pub fit: Fit,
+    pub length: usize,
 }
 
-// The tokens of the second book in order, each compared where it stands with those of the first, whose totals are given.
-pub fn survey(first: &[u8], totals: Totals, second: &[u8]) -> Marked
+// The tokens of the second book in order, each compared where it stands with those of the first, whose totals are given. 5 where they pass
+// the limits, with the record's place: so the records are gone through by their places.
+pub fn survey(first: &[u8], totals: Totals, second: &[u8]) -> Result<Marked, Refusal>
     requires { Books first.now second.now totals }
-    ensures { Surveyed (bodies_in first.now) (bodies_in second.now) result.marks result.fit }
+    ensures { Surveyed (bodies_in first.now) (bodies_in second.now) result }
 {
     let mut marks = [false; Book::TOKENS];
     let mut tokens = totals.tokens;
@@ -34,10 +29,7 @@ pub fn survey(first: &[u8], totals: Totals, second: &[u8]) -> Marked
     loop {
         let size = book::body_at(second, at);
         if size == 0 {
-            return Marked {
-                marks,
-                fit: Fit::Needs(length),
-            };
+            return Ok(Marked { marks, length });
         }
         let start = at + 1;
         let end = start + size;
@@ -49,10 +41,7 @@ pub fn survey(first: &[u8], totals: Totals, second: &[u8]) -> Marked
             length += 1 + size;
         }
         if too_large(tokens, bodies) {
-            return Marked {
-                marks,
-                fit: Fit::Over(at),
-            };
+            return Err(Refusal::OverLimits(at));
         }
         marks[i] = new;
         i += 1;
@@ -64,8 +53,5 @@ pub fn survey(first: &[u8], totals: Totals, second: &[u8]) -> Marked
 fn too_large(tokens: usize, bodies: usize) -> bool
     ensures { result ≡ (ltb max_tokens tokens || ltb max_bodies bodies) }
 {
-    if Book::TOKENS < tokens {
-        return true;
-    }
-    Book::BODIES < bodies
+    Book::TOKENS < tokens || Book::BODIES < bodies
 }

@@ -8,10 +8,11 @@ ghost use Rattle.merge.specs.Steps.{Marks, if_wanted, placed};
 
 use book::Book;
 
-// The records of the first book as they stand, those of the second whose tokens are marked, and 00h.
-pub fn write(first: &[u8], second: &[u8], marks: [bool; Book::TOKENS], out: &mut [u8])
+// The records of the first book as they stand, those of the second whose tokens are marked, and 00h. A record is copied with its kind byte,
+// so by its place.
+pub fn write(first: &[u8], second: &[u8], marks: &[bool; Book::TOKENS], out: &mut [u8])
     requires first_value { first.now ≡ book_of (bodies_in first.now) }
-    requires second_len_bound { (length (bodies_in second.now) ≤ max_tokens) × Marks (bodies_in first.now) (bodies_in second.now) marks }
+    requires second_len_bound { (length (bodies_in second.now) ≤ max_tokens) × Marks (bodies_in first.now) (bodies_in second.now) marks.now }
     requires second_in_bounds { length (book_of (merged (bodies_in first.now) (bodies_in second.now))) ≤ length out.old }
     ensures { out.new ≡ over (book_of (merged (bodies_in first.now) (bodies_in second.now))) out.old }
 {

@@ -1,12 +1,11 @@
 -- Samples: the numbers of each kind of answer, and a state through its numbers and back.
 use Prim.{tt}
-use Rattle.std.specs.Prelude.{ℕ, ◌≡◌, refl, true, false, List, [], ◌∷◌, ◌++◌, take, set, replicate}
+use Rattle.std.specs.Prelude.{ℕ, ◌≡◌, refl, true, false, Ok, Err, List, [], ◌∷◌, ◌++◌, take, set, replicate}
 use Rattle.std.proofs.Math.Option.{some, none}
 use Rattle.book.specs.Book.{accepted, refused, found, missing, unread}
 use Rattle.fitting.specs.Fitting.{fits, differs, cut_off}
 use Rattle.merge.specs.Merge.{wrote}
 use Rattle.trie.specs.Answers.{tables}
-use Rattle.trie.specs.declared.chain.Way.TheVariants.{Found, Ends}
 use Rattle.scan.specs.declared.Scan.{Scan}
 use Rattle.scan.specs.Start.{start}
 use Rattle.scan.specs.Calls.{fetch, found as hit, over, refused as denied, supply}
@@ -30,7 +29,7 @@ answers =
     ∷ plain (sizes_told (refused 7 21)) ∷ plain (sizes_told (accepted (record { nodes = 19; shortest = 2; longest = 16 })))
     ∷ plain (tested_of (accepted tt)) ∷ plain (tested_of (refused 9 8))
     ∷ plain (child_of (some 8)) ∷ plain (child_of none)
-    ∷ plain (way_of (Found 8)) ∷ plain (way_of (Ends 8))
+    ∷ plain (way_of (Ok 8)) ∷ plain (way_of (Err 8))
     ∷ plain (step_of (fetch 9) 5) ∷ plain (step_of (hit 9 2) 6) ∷ plain (step_of over 7) ∷ plain (step_of (denied 9 9) 8)
     ∷ []
 

@@ -1,14 +1,12 @@
 -- Answers as a kind and four numbers. Kind 0 is a refusal, with its number and value; the others are given with each call. Numbers
 -- that there are not are 0. Different answers to a call have different numbers, but for the two cases of 5 in a merge.
 use Prim.{Unit}
-use Rattle.std.specs.Prelude.{ℕ, Bool, true, false, List, [], ◌∷◌}
+use Rattle.std.specs.Prelude.{ℕ, Bool, true, false, Result, Ok, Err, List, [], ◌∷◌}
 use Rattle.std.proofs.Math.Option.{Option, some, none}
 use Rattle.book.specs.Book.{Verdict, accepted, refused, Totals, Place, found, missing, unread}
 use Rattle.fitting.specs.Fitting.{Fit, fits, differs, cut_off}
 use Rattle.merge.specs.Merge.{verdict, Merging}
 use Rattle.tables.specs.Tables.{Tables, Sizes, Building}
-use Rattle.trie.specs.declared.chain.Way.{Way}
-use Rattle.trie.specs.declared.chain.Way.TheVariants.{Found, Ends}
 use Rattle.scan.specs.declared.Scan.{Scan}
 use Rattle.scan.specs.Calls.{Answer, fetch, found as hit, over, refused as denied}
 use Rattle.probe.specs.declared.Told.{Told}
@@ -77,9 +75,9 @@ child_of (some v) = told 1 v 0 0 0
 child_of none = told 2 0 0 0 0
 
 -- A walk along a chain: 1, the node with the label; 2, the chain's last node.
-abbrev pub way_of : Way → Told
-way_of (Found v) = told 1 v 0 0 0
-way_of (Ends v) = told 2 v 0 0 0
+abbrev pub way_of : Result ℕ ℕ → Told
+way_of (Ok v) = told 1 v 0 0 0
+way_of (Err v) = told 2 v 0 0 0
 
 -- Starting: 1. The state is lent besides.
 abbrev pub opening_of : Verdict Scan → Told

@@ -1,7 +1,7 @@
 -- The scan state as the first 26 numbers of a lent list: N, S, the node count, b, node, d, whether a byte is due, bytes supplied, bytes
 -- taken from stretches, five stretches of left, right and node, and the end and the node of the next hit that is left. What follows them
 -- stays.
-use Rattle.std.specs.Prelude.{ℕ, ◌+◌, Bool, true, false, ◌&&◌, List, [], ◌∷◌, ◌++◌, leb, eqb, length, get_or, drop}
+use Rattle.std.specs.Prelude.{ℕ, ◌+◌, Bool, true, false, ◌&&◌, Option, Some, None, List, [], ◌∷◌, ◌++◌, leb, eqb, length, get_or, drop}
 use Rattle.book.specs.Book.{Verdict}
 use Rattle.scan.specs.declared.Scan.{Scan}
 use Rattle.scan.specs.declared.Stretch.{Stretch as Slot}
@@ -51,6 +51,10 @@ state_in ns = record {
   end = get_or ns 24 0;
   hit = get_or ns 25 0;
 }
+
+-- the state that a list begins with, if it does
+abbrev pub parsed : List ℕ → Option Scan
+parsed ns = elim (is_state ns) [ true ↦ Some (state_in ns) | false ↦ None ]
 
 abbrev pub laid_over : Scan → List ℕ → List ℕ
 laid_over s ns = numbers_of s ++ drop size ns

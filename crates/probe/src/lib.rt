@@ -1,8 +1,10 @@
-// The calls for tests and measurements in C and Python: each with numbers for its answer.
+// The calls for tests and measurements in C and Python: each with numbers for its answer. Tables come as six slices, and a state
+// and the kind of an answer as numbers, as C has them.
 #![tactic(auto)]
 
 mod answers;
 mod states;
+mod steps;
 
 ghost use Rattle.std.specs.Prelude.{◌≡◌, []};
 ghost use Rattle.rules.specs.Lists.{any_of};
@@ -21,7 +23,8 @@ ghost use Rattle.scan.specs.Packets.{none_used, supply_packet};
 ghost use Rattle.probe.specs.Numbers.{reading_of, place_of, contains_of, fit_told, merging_of, building_of, tested_of, child_of, way_of};
 ghost use Rattle.probe.specs.States.{start_in, step_in};
 
-use scan::{Opening, Scan};
+use scan::Scan;
+use trie::{Tables, TablesMut};
 
 // What a call answers: of which kind, and its numbers, 0 for those there are not. Kind 0 is a refusal, with its number and value.
 #[repr(C)]
@@ -90,7 +93,15 @@ pub extern "C" fn probe_build(
         ≡ building_of (build book.now
         (tables parent.old label.old token.old first.old next.old shift.old)) }
 {
-    answers::building(trie::build(book, parent, label, token, first, next, shift))
+    let mut tables = TablesMut {
+        parent,
+        label,
+        token,
+        first,
+        next,
+        shift,
+    };
+    answers::building(trie::build(book, &mut tables))
 }
 
 #[unsafe(no_mangle)]
@@ -106,7 +117,15 @@ pub extern "C" fn probe_test(
     ensures { let t = tables parent.now label.now token.now first.now next.now shift.now in
         result ≡ tested_of (tested (broken t count)) }
 {
-    answers::tested(trie::first_break(parent, label, token, first, next, shift, count))
+    let tables = Tables {
+        parent,
+        label,
+        token,
+        first,
+        next,
+        shift,
+    };
+    answers::tested(trie::first_break(&tables, count))
 }
 
 #[unsafe(no_mangle)]
@@ -120,7 +139,15 @@ pub extern "C" fn probe_child(
 ) -> Told
     ensures { result ≡ child_of (child_by (tree_only [] label.now [] first.now next.now) count node byte) }
 {
-    answers::child(trie::chain::child(label, first, next, count, node, byte))
+    let tables = Tables {
+        parent: &[],
+        label,
+        token: &[],
+        first,
+        next,
+        shift: &[],
+    };
+    answers::child(trie::chain::child(&tables, count, node, byte))
 }
 
 #[unsafe(no_mangle)]
@@ -145,10 +172,8 @@ pub extern "C" fn probe_start(state: &mut [usize], n: usize, shortest: usize, no
         return states::no_state();
     }
     let started = Scan::start(n, shortest, nodes);
-    let fresh = started.state;
-    let opening = started.opening;
-    states::lay(state, fresh);
-    answers::opening(opening)
+    states::lay(state, &started.state);
+    steps::opening(started.opening)
 }
 
 #[unsafe(no_mangle)]
@@ -164,13 +189,19 @@ pub extern "C" fn probe_carry_on(
     ensures { let t = tables parent.now label.now token.now first.now next.now shift.now in
         record { state = state.new; told = result } ≡ step_in (λ s. none_used (carry_on t s)) state.old }
 {
-    if states::is_state(state) {
-        let scan = states::state_in(state);
-        let stepped = scan.carry_on(parent, label, token, first, next, shift);
-        let answer = stepped.answer;
-        return states::hand_back(state, stepped.state, answer, 0);
-    }
-    states::no_state()
+    let Some(scan) = states::parse(state) else {
+        return states::no_state();
+    };
+    let tables = Tables {
+        parent,
+        label,
+        token,
+        first,
+        next,
+        shift,
+    };
+    let stepped = scan.carry_on(&tables);
+    states::hand_back(state, &stepped.state, stepped.answer, 0)
 }
 
 #[unsafe(no_mangle)]
@@ -187,13 +218,19 @@ pub extern "C" fn probe_supply(
     ensures { let t = tables parent.now label.now token.now first.now next.now shift.now in
         record { state = state.new; told = result } ≡ step_in (λ s. none_used (supply t s byte)) state.old }
 {
-    if states::is_state(state) {
-        let scan = states::state_in(state);
-        let stepped = scan.supply(parent, label, token, first, next, shift, byte);
-        let answer = stepped.answer;
-        return states::hand_back(state, stepped.state, answer, 0);
-    }
-    states::no_state()
+    let Some(scan) = states::parse(state) else {
+        return states::no_state();
+    };
+    let tables = Tables {
+        parent,
+        label,
+        token,
+        first,
+        next,
+        shift,
+    };
+    let stepped = scan.supply(&tables, byte);
+    states::hand_back(state, &stepped.state, stepped.answer, 0)
 }
 
 #[unsafe(no_mangle)]
@@ -210,11 +247,17 @@ pub extern "C" fn probe_packet(
     ensures { let t = tables parent.now label.now token.now first.now next.now shift.now in
         record { state = state.new; told = result } ≡ step_in (λ s. supply_packet t s bytes.now) state.old }
 {
-    if states::is_state(state) {
-        let scan = states::state_in(state);
-        let delivered = scan.supply_packet(parent, label, token, first, next, shift, bytes);
-        let answer = delivered.answer;
-        return states::hand_back(state, delivered.state, answer, delivered.used);
-    }
-    states::no_state()
+    let Some(scan) = states::parse(state) else {
+        return states::no_state();
+    };
+    let tables = Tables {
+        parent,
+        label,
+        token,
+        first,
+        next,
+        shift,
+    };
+    let delivered = scan.supply_packet(&tables, bytes);
+    states::hand_back(state, &delivered.state, delivered.answer, delivered.used)
 }

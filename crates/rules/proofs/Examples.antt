@@ -1,9 +1,12 @@
 -- Sample sweeps by the rules over tokens, as one table: P1 to P5 of document 01, three that pin rule 4 and the byte taken from a stretch,
 -- and four of card numbers. Each row says the hits, the places fetched, those taken from stretches, and the limit on fetches; and each
--- sweep ends with done. Then all events of one more, what looks are, rule 5's test and shifts, and the words of tokens.
+-- sweep ends with done. Then all events of one more, what looks are, rule 5's test and shifts, and the words of tokens. And what an option of
+-- the code says.
 use Rattle.std.specs.Prelude.{ℕ, ◌≡◌, refl, Bool, true, false, ◌&&◌, List, [], ◌∷◌, map, eqb, length, replicate}
 use Rattle.std.proofs.Math.Option.{some, none}
+use Rattle.std.specs.Prelude.{Some, None}
 use Rattle.rules.specs.Lists.{same}
+use Rattle.rules.specs.Options.{option_of}
 use Rattle.rules.specs.Rules.{Event, fetched, recalled, hit, shifted, done, trace}
 use Rattle.rules.specs.Words.{is_card, is_word, number_of, all_words}
 use Rattle.rules.specs.Tokens.{body_bytes, longest_of, mismatch, node_shift, byte_shift}
@@ -228,3 +231,7 @@ bodies_right = refl
 numbers-right : map (number_of ((a ∷ b ∷ b ∷ x ∷ []) ∷ (a ∷ []) ∷ []))
     ((a ∷ b ∷ b ∷ x ∷ []) ∷ (x ∷ b ∷ b ∷ a ∷ []) ∷ (a ∷ []) ∷ (b ∷ x ∷ []) ∷ []) ≡ 1 ∷ 1 ∷ 2 ∷ 0 ∷ []
 numbers-right = refl
+
+-- Each case of an option of the code.
+options-told : option_of None ∷ option_of (Some 9) ∷ [] ≡ none ∷ some 9 ∷ []
+options-told = refl

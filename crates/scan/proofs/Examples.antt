@@ -8,8 +8,8 @@ use Rattle.tables.specs.Tables.{Tables}
 use Rattle.scan.specs.declared.Scan.{Scan}
 use Rattle.scan.specs.State.{laid, in_range}
 use Rattle.scan.specs.Start.{started, start}
-use Rattle.scan.specs.declared.Answer.TheVariants.{Broken, OutOfRange, OutOfTurn, Overlong}
-use Rattle.scan.specs.declared.Opening.TheVariants.{TooLong}
+use Rattle.std.specs.Prelude.{Err}
+use Rattle.scan.specs.declared.Refusal.TheVariants.{TooLong, Broken, OutOfRange, OutOfTurn, Overlong}
 use Rattle.scan.specs.Calls.{Answer, fetch, found, over, refused, Stepped, step_refusal, counted, agree, judged, carry_on, supply}
 use Rattle.scan.specs.Results.{verdict_of, answer_of}
 
@@ -411,9 +411,9 @@ fetch-told : step_refusal (fetch 24) ≡ (0, 0)
 fetch-told = refl
 
 -- Each case of the enums has its number.
-cases-told : answer_of (Broken 7) ∷ answer_of OutOfRange ∷ answer_of OutOfTurn ∷ answer_of Overlong ∷ []
+cases-told : answer_of (Err (Broken 7)) ∷ answer_of (Err OutOfRange) ∷ answer_of (Err OutOfTurn) ∷ answer_of (Err Overlong) ∷ []
     ≡ refused 9 7 ∷ refused 10 0 ∷ refused 11 0 ∷ refused 15 0 ∷ []
 cases-told = refl
 
-opening-told : verdict_of (started 0 0 0) (TooLong 7) ≡ unstarted 8 7
+opening-told : verdict_of (started 0 0 0) (Err (TooLong 7)) ≡ unstarted 8 7
 opening-told = refl

@@ -2,13 +2,13 @@
 -- call in turn answers what the rules say next, and counts what they took from stretches (Bill, Settle, Turns), a packet too (Feeds). Over any
 -- tables that pass refusal 9: a state in its ranges (Within) stays there by a step (Stay) and by a call (Kept, Singly), and carrying on when
 -- done changes nothing (Done). Over any tables a packet gives what its bytes give singly (Singly). Slots: the stretches in a state are those
--- laid there. Of the code: what it finds in the tables that it climbs (Ways, Memory).
+-- laid there. ByLists: what a climb finds hangs on the tables that it reads alone.
 -- For the functions' proofs:
--- Invariants of the loops, and what the steps come to, over plain lists and numbers. Each module serves that of src/ whose name it
+-- Invariants of the loops, and what the steps come to, over tables, lists and numbers. Each module serves that of src/ whose name it
 -- begins with; `Judge` serves the calls of `lib.rt`.
 pub mod Slots
-pub mod Ways
 pub mod Within
+pub mod ByLists
 pub mod Bill
 pub mod Stay
 pub mod Walk
@@ -19,7 +19,6 @@ pub mod Kept
 pub mod Singly
 pub mod Feeds
 pub mod Done
-pub mod Memory
 pub mod Spell
 pub mod Shift
 pub mod Stretches
@@ -29,7 +28,6 @@ pub mod Hits
 pub mod RangesDepth
 pub mod RangesStretches
 pub mod RangesDue
-pub mod RangesLeft
 pub mod Ranges
 pub mod Steps
 pub mod StepsChoose

@@ -1,5 +1,5 @@
 -- Samples of packets: which bytes are used, with which state and answer a call stops, and its refusals in their order.
-use Rattle.std.specs.Prelude.{ℕ, ◌≡◌, refl, true, false, List, [], ◌∷◌, replicate}
+use Rattle.std.specs.Prelude.{ℕ, Ok, ◌≡◌, refl, true, false, List, [], ◌∷◌, replicate}
 use Rattle.rules.specs.Rules.{Stretch}
 use Rattle.scan.specs.declared.Scan.{Scan}
 use Rattle.scan.specs.declared.Answer.TheVariants.{Fetch}
@@ -115,6 +115,6 @@ unfolding due row chain count
 singly-right = refl
 
 -- What the call hands back, as the definitions have it.
-delivered-told : delivered_of (record { state = due 30 25 3 [] 10; answer = Fetch 21; used = 3 }) ≡ used 3 (due 30 25 3 [] 10) (fetch 21)
+delivered-told : delivered_of (record { state = due 30 25 3 [] 10; answer = Ok (Fetch 21); used = 3 }) ≡ used 3 (due 30 25 3 [] 10) (fetch 21)
 unfolding used
 delivered-told = refl

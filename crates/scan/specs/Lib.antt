@@ -1,5 +1,5 @@
 -- The sweep by bytes: the scan state, starting, the calls that step it, and what they are to answer. And what the code
--- in between asks of tables (Ways), shifts (Shifts) and remembered stretches (Memory), of the ranges (Ranges) and of a step (Steps); and
+-- in between asks of tables (Ways), shifts (Shifts) and remembered stretches (Memory), and of a step (Steps, Within); and
 -- its answers as the definitions have them (Results).
 pub mod State
 pub mod Start
@@ -8,7 +8,6 @@ pub mod Packets
 pub mod Answers
 pub mod Ways
 pub mod Shifts
-pub mod Ranges
 pub mod Memory
 pub mod Steps
 pub mod Results

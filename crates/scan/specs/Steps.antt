@@ -1,9 +1,8 @@
 -- What the code of a step asks of a state, and what comes next, as the rules have it.
-use Rattle.std.specs.Prelude.{ℕ, ◌≡◌, List}
+use Rattle.std.specs.Prelude.{◌≡◌}
 use Rattle.std.proofs.Math.Option.{none}
 use Rattle.rules.specs.Rules.{finished, wants, goes, place, recalled, end_round, after, take_byte, next}
 use Rattle.tables.specs.Tables.{Tables}
-use Rattle.trie.specs.Answers.{tables}
 use Rattle.scan.specs.declared.Scan.{Scan}
 use Rattle.scan.specs.declared.steps.Move.{Move}
 use Rattle.scan.specs.declared.steps.Move.TheVariants.{Finished, Wants, End, Take}
@@ -14,19 +13,6 @@ use Rattle.scan.specs.Within.{Goes}
 pub record Stepping (t : Tables) (s : Scan) : Type 0 where
   pub goes : Goes t s
   pub none : s.hit ≡ 0
-
--- A round ends without a look at the chains.
-pub record Ending (parent label token shift : List ℕ) (s : Scan) : Type 0 where
-  pub first : List ℕ
-  pub next : List ℕ
-  pub goes : Goes (tables parent label token first next shift) s
-
--- A look at the next place without a look at tokens and shifts.
-pub record Looking (parent label first : List ℕ) (s : Scan) : Type 0 where
-  pub token : List ℕ
-  pub next : List ℕ
-  pub shift : List ℕ
-  pub goes : Goes (tables parent label token first next shift) s
 
 -- What comes next from a state, as the rules have it.
 abbrev pub Chosen : Tables → Scan → Move → Type 0

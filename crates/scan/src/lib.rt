@@ -11,17 +11,17 @@ mod steps;
 mod stretches;
 
 ghost use Rattle.std.specs.Prelude.{◌≡◌};
-ghost use Rattle.book.specs.Book.{refusal_in};
-ghost use Rattle.trie.specs.Answers.{tables};
+ghost use Rattle.trie.specs.Lent.{tables_of};
 ghost use Rattle.scan.specs.Start.{started, start};
-ghost use Rattle.scan.specs.Calls.{step_refusal, carry_on, supply};
+ghost use Rattle.scan.specs.Calls.{carry_on, supply};
 ghost use Rattle.scan.specs.Packets.{supply_packet};
-ghost use Rattle.scan.specs.Results.{verdict_of, opened, started_of, answer_of, stepped_of, delivered_of};
+ghost use Rattle.scan.specs.Results.{refusal_of, opened, started_of, stepped_of, delivered_of};
 
 use book::{Book, Numbered};
-use judge::{Judged, judge};
+use judge::judge;
 use packets::feed;
 use steps::{settle, supply_due};
+use trie::Tables;
 
 // A remembered stretch: the places from left up to right, right not included; its bytes are the ending of its node. A slot that
 // is not in use holds zeros.
@@ -32,9 +32,16 @@ pub struct Stretch {
     pub node: usize,
 }
 
+// A slot that holds no stretch.
+const UNUSED: Stretch = Stretch {
+    left: 0,
+    right: 0,
+    node: 0,
+};
+
 // N, S, the number of nodes, the present round's boundary, node and depth, the remembered stretches, how many bytes were supplied so
-// far and how many taken from stretches instead (document 02: spared), whether a byte is due, and of the hits that are still to be answered
-// their end and the node of the next (both 0 for none).
+// far and how many were taken from stretches instead, whether a byte is due, and of the hits that are still to be answered
+// their end and the node of the next (both 0 for none: the form of the state is fixed, and C's tests hand it over as numbers).
 #[derive(Clone, Copy)]
 pub struct Scan {
     pub image: usize,
@@ -51,79 +58,38 @@ pub struct Scan {
     pub hit: usize,
 }
 
-// Whether starting went well, or refusal 8 with its value.
+// Why starting or a step is refused: refusal 8 or 9 with its value, 10, 11 or 15.
 #[derive(Clone, Copy)]
-pub enum Opening {
-    Ready,
+pub enum Refusal {
     TooLong(usize),
-}
-
-impl Opening {
-    pub fn numbered(self) -> Numbered
-        ensures { (s : Scan) → (result.number ≡ (refusal_in (verdict_of s self)).0) × (result.value ≡ (refusal_in (verdict_of s self)).1) }
-    {
-        match self {
-            Opening::Ready => Numbered {
-                number: 0,
-                value: 0,
-            },
-            Opening::TooLong(most) => Numbered {
-                number: 8,
-                value: most,
-            },
-        }
-    }
-}
-
-// The state to step from: where starting is refused, one that every step refuses.
-#[derive(Clone, Copy)]
-pub struct Started {
-    pub state: Scan,
-    pub opening: Opening,
-}
-
-// What a step answers: a place to fetch, a hit (where it ends, and its token), done, or refusal 9 with its value, 10, 11 or 15.
-#[derive(Clone, Copy)]
-pub enum Answer {
-    Fetch(usize),
-    Hit(usize, usize),
-    Done,
     Broken(usize),
     OutOfRange,
     OutOfTurn,
     Overlong,
 }
 
-impl Answer {
+impl Refusal {
     pub fn numbered(self) -> Numbered
-        ensures { (result.number ≡ (step_refusal (answer_of self)).0) × (result.value ≡ (step_refusal (answer_of self)).1) }
+        ensures { (result.number ≡ (refusal_of self).0) × (result.value ≡ (refusal_of self).1) }
     {
         match self {
-            Answer::Fetch(_) => Numbered {
-                number: 0,
-                value: 0,
+            Refusal::TooLong(most) => Numbered {
+                number: 8,
+                value: most,
             },
-            Answer::Hit(_, _) => Numbered {
-                number: 0,
-                value: 0,
-            },
-            Answer::Done => Numbered {
-                number: 0,
-                value: 0,
-            },
-            Answer::Broken(node) => Numbered {
+            Refusal::Broken(node) => Numbered {
                 number: 9,
                 value: node,
             },
-            Answer::OutOfRange => Numbered {
+            Refusal::OutOfRange => Numbered {
                 number: 10,
                 value: 0,
             },
-            Answer::OutOfTurn => Numbered {
+            Refusal::OutOfTurn => Numbered {
                 number: 11,
                 value: 0,
             },
-            Answer::Overlong => Numbered {
+            Refusal::Overlong => Numbered {
                 number: 15,
                 value: 0,
             },
@@ -131,18 +97,44 @@ impl Answer {
     }
 }
 
+impl From<trie::Broken> for Refusal {
+    ghost use Rattle.std.specs.Prelude.{◌≡◌};
+    ghost use Rattle.scan.specs.declared.Refusal.TheVariants.{Broken};
+
+    ghost from_gives = { λ broken r. r ≡ Broken broken.node };
+
+    fn from(broken: trie::Broken) -> Refusal {
+        Refusal::Broken(broken.node)
+    }
+}
+
+// The state to step from: where starting is refused, one that every step refuses.
+#[derive(Clone, Copy)]
+pub struct Started {
+    pub state: Scan,
+    pub opening: Result<(), Refusal>,
+}
+
+// What a step answers: a place to fetch, a hit (where it ends, and its token), or done.
+#[derive(Clone, Copy)]
+pub enum Answer {
+    Fetch(usize),
+    Hit(usize, usize),
+    Done,
+}
+
 // The next state, and what the step answers.
 #[derive(Clone, Copy)]
 pub struct Stepped {
     pub state: Scan,
-    pub answer: Answer,
+    pub answer: Result<Answer, Refusal>,
 }
 
 // The same of a packet, and how many of its bytes were used.
 #[derive(Clone, Copy)]
 pub struct Delivered {
     pub state: Scan,
-    pub answer: Answer,
+    pub answer: Result<Answer, Refusal>,
     pub used: usize,
 }
 
@@ -158,11 +150,7 @@ fn fresh(n: usize, shortest: usize, nodes: usize) -> Scan
         node: 0,
         depth: 0,
         due: false,
-        stretches: [Stretch {
-            left: 0,
-            right: 0,
-            node: 0,
-        }; 5],
+        stretches: [UNUSED; 5],
         supplied: 0,
         spared: 0,
         end: 0,
@@ -179,92 +167,61 @@ impl Scan {
         ensures { started_of result ≡ opened (start n shortest nodes) }
     {
         if Book::IMAGE < n {
-            let state = fresh(0, 0, 0);
             return Started {
-                state,
-                opening: Opening::TooLong(Book::IMAGE),
+                state: fresh(0, 0, 0),
+                opening: Err(Refusal::TooLong(Book::IMAGE)),
             };
         }
-        let state = fresh(n, shortest, nodes);
         Started {
-            state,
-            opening: Opening::Ready,
+            state: fresh(n, shortest, nodes),
+            opening: Ok(()),
         }
     }
 
     // A step while no byte is due.
-    pub fn carry_on(
-        self,
-        parent: &[u16],
-        label: &[u8],
-        token: &[u16],
-        first: &[u16],
-        next: &[u16],
-        shift: &[u16],
-    ) -> Stepped
-        ensures { let t = tables parent.now label.now token.now first.now next.now shift.now in
-            stepped_of result ≡ carry_on t self }
+    pub fn carry_on(self, tables: &Tables) -> Stepped
+        ensures { stepped_of result ≡ carry_on (tables_of tables.now) self }
     {
-        match judge(self, parent, label, token, first, next, shift, false) {
-            Judged::Refused(answer) => Stepped {
+        match judge(&self, tables, false) {
+            Err(why) => Stepped {
                 state: self,
-                answer,
+                answer: Err(why),
             },
-            Judged::Admitted => settle(self, parent, label, token, first, next, shift),
+            Ok(()) => settle(self, tables),
         }
     }
 
     // A step with the byte that is due.
-    pub fn supply(
-        self,
-        parent: &[u16],
-        label: &[u8],
-        token: &[u16],
-        first: &[u16],
-        next: &[u16],
-        shift: &[u16],
-        byte: u8,
-    ) -> Stepped
-        ensures { let t = tables parent.now label.now token.now first.now next.now shift.now in
-            stepped_of result ≡ supply t self byte }
+    pub fn supply(self, tables: &Tables, byte: u8) -> Stepped
+        ensures { stepped_of result ≡ supply (tables_of tables.now) self byte }
     {
-        match judge(self, parent, label, token, first, next, shift, true) {
-            Judged::Refused(answer) => Stepped {
+        match judge(&self, tables, true) {
+            Err(why) => Stepped {
                 state: self,
-                answer,
+                answer: Err(why),
             },
-            Judged::Admitted => supply_due(self, parent, label, token, first, next, shift, byte),
+            Ok(()) => supply_due(self, tables, byte),
         }
     }
 
     // A step with bytes for the place that is due, the one below it, and so on: they are used while the place wanted is the next one down.
-    pub fn supply_packet(
-        self,
-        parent: &[u16],
-        label: &[u8],
-        token: &[u16],
-        first: &[u16],
-        next: &[u16],
-        shift: &[u16],
-        bytes: &[u8],
-    ) -> Delivered
-        ensures { let t = tables parent.now label.now token.now first.now next.now shift.now in
-            delivered_of result ≡ supply_packet t self bytes.now }
+    pub fn supply_packet(self, tables: &Tables, bytes: &[u8]) -> Delivered
+        ensures { delivered_of result ≡ supply_packet (tables_of tables.now) self bytes.now }
     {
         if Scan::PACKET < bytes.len() {
             return Delivered {
                 state: self,
-                answer: Answer::Overlong,
+                answer: Err(Refusal::Overlong),
                 used: 0,
             };
         }
-        match judge(self, parent, label, token, first, next, shift, true) {
-            Judged::Refused(answer) => Delivered {
+        match judge(&self, tables, true) {
+            Err(why) => Delivered {
                 state: self,
-                answer,
+                answer: Err(why),
                 used: 0,
             },
-            Judged::Admitted => feed(self, parent, label, token, first, next, shift, bytes),
+            Ok(()) => feed(self, tables, bytes),
         }
     }
 }

@@ -1,210 +1,161 @@
 // Remembered stretches: the byte of a place that lies in one (rule 2), and what is remembered after a round (rules 4 and 6).
 
-ghost use Rattle.std.specs.Prelude.{◌<◌, ◌≡◌, length};
-ghost use Rattle.rules.specs.Rules.{left_over, cut, kept};
-ghost use Rattle.rules.specs.Lists.{All};
+ghost use Rattle.std.specs.Prelude.{◌<◌, ◌≡◌, ◌≤◌, ◌^◌, leb};
+ghost use Rattle.rules.specs.Lists.{All, select};
+ghost use Rattle.rules.specs.Options.{option_of};
+ghost use Rattle.rules.specs.Rules.{left_over, cut, kept, recall, ended};
 ghost use Rattle.rules.specs.Stretches.{Lies, farther_of, stays, staying};
-ghost use Rattle.scan.specs.State.{stretch_of, in_use, used};
-ghost use Rattle.scan.specs.Ways.{Climbs};
-ghost use Rattle.scan.specs.Memory.{recalled_of, recall_by, Remembers, covers, holding, holder_of, put_in, sift_in, filled_with, Ends, remember_by};
+ghost use Rattle.trie.specs.Lent.{tables_of};
+ghost use Rattle.scan.specs.State.{stretch_of, in_use, used, laid, max_stretches, config_of, tree_of};
+ghost use Rattle.scan.specs.Memory.{covers, holding, holder_of, put_in, sift_in, filled_with};
+ghost use Rattle.scan.specs.Within.{Goes};
 
-use crate::{Stretch, spell};
+use crate::{Scan, Stretch, UNUSED, spell};
+use trie::Tables;
 
-// What is remembered of a place.
-#[derive(Clone, Copy)]
-pub enum Recalled {
-    Byte(u8),
-    Nothing,
-}
-
-// A slot is in use if it is not all zeros.
-pub fn in_use(s: Stretch) -> bool
-    ensures { result ≡ in_use s }
-{
-    if s.left != 0 {
-        return true;
+impl Stretch {
+    // A slot is in use if it is not all zeros.
+    pub(crate) fn in_use(self) -> bool
+        ensures { result ≡ in_use self }
+    {
+        self.left != 0 || self.right != 0 || self.node != 0
     }
-    if s.right != 0 {
-        return true;
-    }
-    s.node != 0
-}
 
-// The place lies in the stretch.
-pub fn covers(s: Stretch, at: usize) -> bool
-    ensures { result ≡ covers at (stretch_of s) }
-{
-    if at < s.left {
-        return false;
+    // The place lies in the stretch.
+    fn covers(self, at: usize) -> bool
+        ensures { result ≡ covers at (stretch_of self) }
+    {
+        self.left <= at && at < self.right
     }
-    at < s.right
-}
 
-// The stretch that has a place, if one has.
-#[derive(Clone, Copy)]
-pub enum Holder {
-    In(Stretch),
-    Nowhere,
+    // It reaches no farther than a place.
+    pub(crate) fn ends_by(self, place: usize) -> bool
+        ensures { result ≡ leb self.right place }
+    {
+        self.right <= place
+    }
+
+    // Rule 4: an edge, or the right edge of a stretch that is left over and reaches farther.
+    fn farther(self, from: usize, edge: usize) -> usize
+        ensures { result ≡ farther_of from edge (stretch_of self) }
+    {
+        if from <= self.left {
+            return edge;
+        }
+        edge.max(self.right)
+    }
+
+    // Rule 6: the stretch is kept at boundary b.
+    fn kept_at(self, b: usize) -> bool
+        requires { Lies b (stretch_of self) }
+        ensures { result ≡ kept b (stretch_of self) }
+    {
+        4 * (b - self.right) <= self.right - self.left
+    }
 }
 
 // The first of the slots in use that has the place.
-pub fn seek(slots: [Stretch; 5], at: usize) -> Holder
-    requires size { length slots ≡ 5 }
-    ensures { holder_of result ≡ holding at (used slots) }
+pub fn seek(slots: &[Stretch; 5], at: usize) -> Option<Stretch>
+    ensures { holder_of result ≡ holding at (used slots.now) }
 {
-    let mut i = 0;
-    while i < 5 {
-        let s = slots[i];
-        if !in_use(s) {
-            return Holder::Nowhere;
-        }
-        if covers(s, at) {
-            return Holder::In(s);
-        }
-        i += 1;
-    }
-    Holder::Nowhere
+    slots
+        .iter()
+        .take_while(|s| s.in_use())
+        .find(|s| s.covers(at))
+        .copied()
 }
 
 // Rule 2: the byte of a place that lies in a remembered stretch.
-pub fn recall(parent: &[u16], label: &[u8], slots: [Stretch; 5], at: usize) -> Recalled
-    requires way { Remembers parent.now label.now (used slots) }
-    requires size { length slots ≡ 5 }
-    ensures { recalled_of result ≡ recall_by parent.now label.now (used slots) at }
+pub fn recall(scan: &Scan, tables: &Tables, at: usize) -> Option<u8>
+    requires { Goes (tables_of tables.now) scan.now }
+    ensures { option_of result ≡ recall (tree_of (tables_of tables.now) scan.now) (used scan.now.stretches) at }
 {
-    match seek(slots, at) {
-        Holder::Nowhere => Recalled::Nothing,
-        Holder::In(s) => {
-            let v = spell::lift(parent, s.node, at - s.left);
-            Recalled::Byte(label[v])
+    match seek(&scan.stretches, at) {
+        None => None,
+        Some(s) => {
+            let v = spell::lift(tables, s.node, at - s.left);
+            Some(tables.label[v])
         }
     }
 }
 
-// Slots, and how many of them are in use.
+// Slots, and how many of them are in use, which come first. (Libraries have no heap, so it is no vector.)
 #[derive(Clone, Copy)]
 pub struct Filled {
     pub slots: [Stretch; 5],
     pub n: usize,
 }
 
-// Rule 4: an edge, or the right edge of a stretch that is left over and reaches farther.
-fn farther(from: usize, edge: usize, s: Stretch) -> usize
-    ensures { result ≡ farther_of from edge (stretch_of s) }
-{
-    if from <= s.left {
-        return edge;
+impl Filled {
+    // The slots with a stretch more.
+    fn put(self, s: Stretch) -> Filled
+        requires { self.n < 5 }
+        ensures { result ≡ put_in self s }
+    {
+        let mut out = self;
+        out.slots[self.n] = s;
+        out.n += 1;
+        out
     }
-    if edge < s.right { s.right } else { edge }
+
+    // Rules 4 and 6: the slots with a stretch more, if it is left over and kept.
+    fn sift(self, from: usize, b: usize, s: Stretch) -> Filled
+        requires room { self.n < 5 }
+        requires lies { Lies b (stretch_of s) }
+        ensures { result ≡ sift_in (stays from b (stretch_of s)) self s }
+    {
+        if from <= s.left || !s.kept_at(b) {
+            return self;
+        }
+        self.put(s)
+    }
 }
 
 // Rule 4: where the new stretch begins, at `from` or at the right edge of the nearest stretch left over.
-fn edge(slots: [Stretch; 5], from: usize) -> usize
-    requires size { length slots ≡ 5 }
-    ensures { result ≡ cut from (left_over from (used slots)) }
+fn edge(slots: &[Stretch; 5], from: usize) -> usize
+    ensures { result ≡ cut from (left_over from (used slots.now)) }
 {
-    let mut far = from;
-    let mut i = 0;
-    while i < 5 {
-        let s = slots[i];
-        if !in_use(s) {
-            return far;
-        }
-        far = farther(from, far, s);
-        i += 1;
-    }
-    far
+    slots
+        .iter()
+        .take_while(|s| s.in_use())
+        .fold(from, |far, s| s.farther(from, far))
 }
 
-// Rule 6: a stretch is kept at boundary b.
-fn keeps(b: usize, s: Stretch) -> bool
-    requires { Lies b (stretch_of s) }
-    ensures { result ≡ kept b (stretch_of s) }
-{
-    4 * (b - s.right) <= s.right - s.left
-}
-
-// The slots with a stretch more.
-fn put(f: Filled, s: Stretch) -> Filled
-    requires { f.n < 5 }
-    ensures { result ≡ put_in f s }
-{
-    let mut out = f;
-    let n = f.n;
-    out.slots[n] = s;
-    out.n = n + 1;
-    out
-}
-
-// Rules 4 and 6: the slots with a stretch more, if it is left over and kept.
-fn sift(from: usize, b: usize, f: Filled, s: Stretch) -> Filled
-    requires room { f.n < 5 }
-    requires lies { Lies b (stretch_of s) }
-    ensures { result ≡ sift_in (stays from b (stretch_of s)) f s }
-{
-    if from <= s.left {
-        return f;
-    }
-    if !keeps(b, s) {
-        return f;
-    }
-    put(f, s)
-}
-
-// Rules 4 and 6: the stretches that are left over and kept.
-fn held(slots: [Stretch; 5], from: usize, b: usize) -> Filled
-    requires size { length slots ≡ 5 }
-    requires lies { All (Lies b) (used slots) }
-    ensures { result ≡ filled_with (staying from b (used slots)) }
+// Rules 4 and 6: the stretches that are left over and kept. No fold: each step needs that there is room, which the loop's invariant says.
+fn held(slots: &[Stretch; 5], from: usize, b: usize) -> Filled
+    requires { All (Lies b) (used slots.now) }
+    ensures { result ≡ filled_with (staying from b (used slots.now)) }
 {
     let mut f = Filled {
-        slots: [Stretch {
-            left: 0,
-            right: 0,
-            node: 0,
-        }; 5],
+        slots: [UNUSED; 5],
         n: 0,
     };
-    let mut i = 0;
-    while i < 5 {
-        let s = slots[i];
-        if !in_use(s) {
+    for s in slots {
+        if !s.in_use() {
             return f;
         }
-        f = sift(from, b, f, s);
-        i += 1;
+        f = f.sift(from, b, *s);
     }
     f
 }
 
-// Rules 4 and 6: what is remembered after a round that ended at `node`, `depth` deep, when the boundary moves to `next`.
-pub fn remember(
-    parent: &[u16],
-    slots: [Stretch; 5],
-    node: usize,
-    depth: usize,
-    boundary: usize,
-    next: usize,
-) -> [Stretch; 5]
-    requires way { Climbs parent.now node }
-    requires size { length slots ≡ 5 }
-    requires lies { All (Lies boundary) (used slots) }
-    requires numbers { Ends parent.now node depth boundary next }
-    ensures { result ≡ remember_by parent.now (used slots) node depth boundary next }
+// Rules 4 and 6: what is remembered after a round that ended where the state stands, when the boundary moves to `next`.
+pub fn remember(scan: &Scan, tables: &Tables, next: usize) -> [Stretch; 5]
+    requires goes { Goes (tables_of tables.now) scan.now }
+    requires moves { (scan.now.boundary ≤ next) × (next < 2 ^ 32) }
+    ensures { let c = config_of scan.now in
+        result ≡ laid max_stretches (select (kept next) (ended (tree_of (tables_of tables.now) scan.now) c)) }
 {
-    let from = boundary - depth;
-    let left = edge(slots, from);
-    let f = held(slots, from, next);
+    let from = scan.boundary - scan.depth;
+    let left = edge(&scan.stretches, from);
+    let f = held(&scan.stretches, from, next);
     let new = Stretch {
-        left: left,
-        right: boundary,
-        node: spell::lift(parent, node, left - from),
+        left,
+        right: scan.boundary,
+        node: spell::lift(tables, scan.node, left - from),
     };
-    if 5 <= f.n {
+    if 5 <= f.n || !new.kept_at(next) {
         return f.slots;
     }
-    if !keeps(next, new) {
-        return f.slots;
-    }
-    put(f, new).slots
+    f.put(new).slots
 }

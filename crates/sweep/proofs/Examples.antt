@@ -1,7 +1,6 @@
 -- Samples of what comes after a read, and of each line's bytes.
-use Rattle.std.specs.Prelude.{◌≡◌, refl, true, false, pos, negsuc}
-use Rattle.sweep.specs.declared.files.Got.TheVariants.{Bytes, Failed}
-use Rattle.sweep.specs.declared.files.Next.TheVariants.{More, Over}
+use Rattle.std.specs.Prelude.{◌≡◌, refl, true, false, Ok, Err}
+use Rattle.std.specs.declared.ops.ControlFlow.TheVariants.{Continue, Break}
 use Rattle.sweep.specs.declared.lines.Line.TheVariants.{Image, Hit, End, Refused}
 use Rattle.sweep.specs.Lines.{ascii, line_bytes}
 use Rattle.sweep.specs.Program.{after_read}
@@ -13,31 +12,31 @@ image-line = refl
 hit-line : line_bytes (Hit 8 1) ≡ ascii "hit 8 1\n"
 hit-line = refl
 
-end_line_lem : line_bytes (End 1 7 0) ≡ ascii "end 1 7 0\n"
+end_line_lem : line_bytes (End (record { hits = 1; fetched = 7; spared = 0 })) ≡ ascii "end 1 7 0\n"
 end_line_lem = refl
 
-refused-line : line_bytes (Refused 8 65536) ≡ ascii "refused 8 65536\n"
+refused-line : line_bytes (Refused (record { number = 8; value = 65536 })) ≡ ascii "refused 8 65536\n"
 refused-line = refl
 
--- A read fails with -1: a folder's first one is its end, and all others are failures.
-folder-empty : after_read (negsuc 0) 0 true ≡ Over (Bytes 0)
-folder-empty = refl
+-- A folder's first read, which fails, is its end, and all others that fail are failures.
+folder-empty : {E : Type 0} (e : E) → after_read (Err e) 0 true ≡ Break (Ok 0)
+folder-empty e = refl
 
-folder-late : after_read (negsuc 0) 3 true ≡ Over Failed
-folder-late = refl
+folder-late : {E : Type 0} (e : E) → after_read (Err e) 3 true ≡ Break (Err e)
+folder-late e = refl
 
-read-failed : after_read (negsuc 0) 0 false ≡ Over Failed
-read-failed = refl
+read-failed : {E : Type 0} (e : E) → after_read (Err e) 0 false ≡ Break (Err e)
+read-failed e = refl
 
-failed-late : after_read (negsuc 0) 3 false ≡ Over Failed
-failed-late = refl
+failed-late : {E : Type 0} (e : E) → after_read (Err e) 3 false ≡ Break (Err e)
+failed-late e = refl
 
 -- A read of no byte is the file's end, and one of a byte is not.
-file-empty : after_read (pos 0) 0 false ≡ Over (Bytes 0)
+file-empty : {E : Type 0} → after_read {E = E} (Ok 0) 0 false ≡ Break (Ok 0)
 file-empty = refl
 
-file-ends : after_read (pos 0) 3 false ≡ Over (Bytes 3)
+file-ends : {E : Type 0} → after_read {E = E} (Ok 0) 3 false ≡ Break (Ok 3)
 file-ends = refl
 
-byte-read : after_read (pos 1) 3 false ≡ More
+byte-read : {E : Type 0} → after_read {E = E} (Ok 1) 3 false ≡ Continue 1
 byte-read = refl

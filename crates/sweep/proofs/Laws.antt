@@ -3,3 +3,4 @@ pub mod Lines
 pub mod Opening
 pub mod Own
 pub mod Parts
+pub mod Told

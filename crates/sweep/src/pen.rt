@@ -1,144 +1,98 @@
-// The lines wait in a buffer, so that few writes are made.
-ghost use Rattle.std.specs.Prelude.{◌≤◌, ◌≡◌, false, ◌++◌, length, take};
-ghost use Rattle.sweep.specs.Lines.{line_bytes, Ready, waiting};
+// The lines wait in a buffer, so that few writes are made. After a write that fails nothing more is written, so that a last line means that
+// all lines are there.
+ghost use Rattle.std.specs.Prelude.{◌≤◌, ◌≡◌, ◌++◌, [], take, OnOk};
+ghost use Rattle.std.specs.Io.KnownBytes.{Appends, Keeps};
+ghost use Rattle.sweep.specs.Lines.{line_bytes, waiting, waits};
 ghost use Rattle.sweep.specs.Program.{image_limit};
+ghost use Rattle.sweep.specs.Told.{told};
 
-use crate::lines::{LONGEST, Line};
-use crate::{lines, numbers, reasons};
-use book::{Numbered, Totals};
+use crate::hits::{Hits, Part};
+use crate::job::Job;
+use crate::lines::{Buffer, LONGEST, Line, ROOM};
 use image::Found;
+use std::io;
+use std::io::Write;
 
-// How many bytes the buffer has room for.
-pub const ROOM: usize = 65536;
-
-// How many bytes wait in the buffer, and whether all writes so far went well. After one that did not nothing more is written, so that a
-// last line means that all lines are there.
-#[derive(Clone, Copy)]
-pub struct Pen {
-    pub used: usize,
-    pub well: bool,
+#[derive(Drop)]
+pub struct Pen<W> {
+    pub to: W,
+    pub buffer: Buffer,
 }
 
-impl Pen {
-    pub fn new() -> Pen
-        ensures { result.used ≡ 0 }
+impl<W: Write + Drop> Pen<W> {
+    pub fn new(to: W) -> Pen<W>
+        ensures { (result.to ≡ to) × (result.buffer.used ≡ 0) }
     {
         Pen {
-            used: 0,
-            well: true,
+            to,
+            buffer: Buffer::new(),
         }
     }
 
     // Writes what waits.
-    fn flush(self, rt: &(impl Print + Eprint + AllocGlobal), out: &[u8]) -> Pen
-        requires { self.used ≤ length out.now }
-        ensures { (result.used ≡ 0) × (self.well ≡ false → result.well ≡ false) }
+    fn flush(&mut self) -> io::Result<()>
+        ensures used { self.new.buffer.used ≡ 0 }
+        ensures bytes { self.new.buffer.bytes ≡ self.old.buffer.bytes }
+        ensures written { OnOk result (Appends (W.contents self.old.to) (W.contents self.new.to) (waits self.old.buffer)) }
     {
-        let n = self.used;
-        if !self.well {
-            return Pen {
-                used: 0,
-                well: false,
-            };
-        }
-        Pen {
-            used: 0,
-            well: write(rt, &out[..n]),
-        }
+        let n = self.buffer.used;
+        self.buffer.used = 0;
+        self.to.write_all(&self.buffer.bytes[..n])
     }
 
     // Where there is no room for a line what waits is written.
-    fn room(self, rt: &(impl Print + Eprint + AllocGlobal), out: &[u8]) -> Pen
-        requires { self.used ≤ length out.now }
-        ensures { (result.used ≡ waiting self.used (length out.now)) × (self.well ≡ false → result.well ≡ false) }
+    fn room(&mut self) -> io::Result<()>
+        ensures used { self.new.buffer.used ≡ waiting self.old.buffer.used ROOM }
+        ensures bytes { self.new.buffer.bytes ≡ self.old.buffer.bytes }
+        ensures told { OnOk result (Keeps (told W.contents self.old) (told W.contents self.new)) }
     {
-        if out.len() - self.used < LONGEST {
-            return self.flush(rt, out);
+        if ROOM - self.buffer.used < LONGEST {
+            return self.flush();
         }
-        self
+        Ok(())
     }
 
     // A line behind those that wait.
-    pub fn line(self, rt: &(impl Print + Eprint + AllocGlobal), out: &mut [u8], line: Line) -> Pen
-        requires { Ready self out.old }
-        ensures { Ready result out.new × (take result.used out.new
-            ≡ take (waiting self.used (length out.old)) out.old ++ line_bytes line)
-            × (self.well ≡ false → result.well ≡ false) }
+    pub fn line(&mut self, line: Line) -> io::Result<()>
+        ensures waits { OnOk result (waits self.new.buffer
+            ≡ take (waiting self.old.buffer.used ROOM) self.old.buffer.bytes ++ line_bytes line) }
+        ensures told { OnOk result (Appends (told W.contents self.old) (told W.contents self.new) (line_bytes line)) }
     {
-        let pen = self.room(rt, out);
-        let at = pen.used;
-        Pen {
-            used: lines::put(out, at, line),
-            well: pen.well,
-        }
+        self.room()?;
+        self.buffer.put(line);
+        Ok(())
     }
 
-    // A line for each hit that the buffers hold from entry `first` up to `last`, its end moved by `from`.
-    pub fn hits(
-        self,
-        rt: &(impl Print + Eprint + AllocGlobal),
-        out: &mut [u8],
-        from: usize,
-        first: usize,
-        last: usize,
-        ends: &[u32],
-        tokens: &[u32],
-    ) -> Pen
-        requires { Ready self out.old × (from ≤ image_limit) }
-        ensures { Ready result out.new × (self.well ≡ false → result.well ≡ false) }
+    // A line for each hit of a part that is not listed yet.
+    pub fn hits(&mut self, hits: &Hits, part: Part) -> io::Result<()>
+        requires { part.from ≤ image_limit }
     {
-        let mut pen = self;
-        let mut i = first;
-        while i < last {
-            pen = pen.line(rt, out, numbers::hit_line(from, ends, tokens, i));
-            i += 1;
+        for i in part.before..part.hits {
+            self.line(hits.line(part.from, i))?;
         }
-        pen
+        Ok(())
     }
 
     // The last line; then what waits is written.
-    pub fn end(self, rt: &(impl Print + Eprint + AllocGlobal), out: &mut [u8], last: Line)
-        requires { Ready self out.old }
+    pub fn end(&mut self, last: Line) -> io::Result<()>
+        ensures { OnOk result (Appends (told W.contents self.old) (W.contents self.new.to) (line_bytes last)) }
     {
-        self.line(rt, out, last).finish(rt, out)
+        self.line(last)?;
+        self.flush()
     }
 
-    // Writes what waits, after which nothing comes.
-    fn finish(self, rt: &(impl Print + Eprint + AllocGlobal), out: &[u8])
-        requires { self.used ≤ length out.now }
-    {
-        self.flush(rt, out);
+    // The lines of a sweep whose hits are all in the buffers.
+    pub fn whole(&mut self, job: &Job, found: Found, hits: &Hits) -> io::Result<()> {
+        self.line(job.first_line())?;
+        self.hits(
+            hits,
+            Part {
+                from: 0,
+                to: job.image.len(),
+                before: 0,
+                hits: found.hits,
+            },
+        )?;
+        self.end(Line::End(found))
     }
-}
-
-// Writes the bytes, and answers whether all could be written. If not, that is said, with the reason: once at most, since it is the last write.
-fn write(rt: &(impl Print + Eprint + AllocGlobal), bytes: &[u8]) -> bool {
-    match rt.write_all(bytes) {
-        Ok(()) => true,
-        Err(why) => {
-            reasons::say(rt, "not all lines could be written", &why);
-            false
-        }
-    }
-}
-
-// A refusal is the only line.
-pub fn refused(rt: &(impl Print + Eprint + AllocGlobal), why: Numbered) {
-    let mut out = [0u8; LONGEST];
-    Pen::new().end(rt, &mut out, numbers::refused_line(why))
-}
-
-// The lines of a sweep whose hits are all in the buffers.
-pub fn whole(
-    rt: &(impl Print + Eprint + AllocGlobal),
-    image: &[u8],
-    totals: Totals,
-    found: Found,
-    ends: &[u32],
-    tokens: &[u32],
-) {
-    let mut out = [0u8; ROOM];
-    let pen = Pen::new().line(rt, &mut out, numbers::first_line(image, totals));
-    let last = pen.hits(rt, &mut out, 0, 0, found.hits, ends, tokens);
-    last.end(rt, &mut out, numbers::last_line(found))
 }

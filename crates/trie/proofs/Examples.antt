@@ -1,24 +1,21 @@
 -- Samples of the walk along a chain: nodes 1, 3 and 2 with the labels "a", "b" and "c"; of the walks that find the shifts of nodes; and of
 -- the numbers of refusals.
-use Rattle.std.specs.Prelude.{ℕ, ◌≡◌, refl, [], ◌∷◌, replicate}
+use Rattle.std.specs.Prelude.{ℕ, ◌≡◌, refl, [], ◌∷◌, Result, Ok, Err, replicate}
 use Rattle.tables.specs.Tables.{Tables}
 use Rattle.tables.specs.Walks.{child_by}
-use Rattle.trie.specs.declared.chain.Way.{Way}
-use Rattle.trie.specs.declared.chain.Way.TheVariants.{Found, Ends}
 use Rattle.book.specs.declared.Refusal.TheVariants.{Repeat}
 use Rattle.book.specs.Book.{refused}
-use Rattle.trie.specs.declared.Tested.TheVariants.{Breaks}
-use Rattle.trie.specs.declared.Building.TheVariants.{Unread, TooShort}
+use Rattle.trie.specs.declared.Refusal.TheVariants.{Unread, TooShort}
 use Rattle.trie.specs.Answers.{tree_only, tested_of, answer_of}
 use Rattle.trie.specs.Chain.{walked, number_of}
 use Rattle.trie.specs.Filling.{Lows, lows, lowered, words_walked, handed_down}
 use Rattle.rules.specs.Tokens.{shortened}
 
-abbrev walk : ℕ → ℕ → ℕ → Way
+abbrev walk : ℕ → ℕ → ℕ → Result ℕ ℕ
 walk count head x = walked (0 ∷ 97 ∷ 99 ∷ 98 ∷ []) (0 ∷ 3 ∷ 0 ∷ 2 ∷ []) x count 0 head
 
 -- the chain's last node, a label that is not there, and the walk's end after two nodes; an empty chain
-walks-right : walk 4 1 99 ∷ walk 4 1 100 ∷ walk 2 1 99 ∷ walk 4 0 97 ∷ [] ≡ Found 2 ∷ Ends 2 ∷ Ends 3 ∷ Ends 0 ∷ []
+walks-right : walk 4 1 99 ∷ walk 4 1 100 ∷ walk 2 1 99 ∷ walk 4 0 97 ∷ [] ≡ Ok 2 ∷ Err 2 ∷ Err 3 ∷ Err 0 ∷ []
 walks-right = refl
 
 -- "bbabb" and "aab": the nodes are "", "b", "bb", "abb", "babb", "bbabb", "ab" and "aab"
@@ -61,8 +58,8 @@ handed-right : handed_down one.parent 6 1 walked_one ∷ handed_down two.parent 
 handed-right = refl
 
 -- What breaks is 9; building has the book's refusals and 7.
-nine-told : tested_of (Breaks 5) ≡ refused 9 5
+nine-told : tested_of (Err (record { node = 5 })) ≡ refused 9 5
 nine-told = refl
 
-building-told : answer_of (Unread (Repeat 5)) ∷ answer_of (TooShort 5) ∷ [] ≡ refused 4 5 ∷ refused 7 5 ∷ []
+building-told : answer_of (Err (Unread (Repeat 5))) ∷ answer_of (Err (TooShort 5)) ∷ [] ≡ refused 4 5 ∷ refused 7 5 ∷ []
 building-told = refl

@@ -5,10 +5,9 @@ use Rattle.std.proofs.Math.Option.{Option, some, none}
 use Rattle.rules.specs.Tokens.{shortest_of, shortened}
 use Rattle.book.specs.Book.{read_book, accepted}
 use Rattle.rules.specs.Words.{all_words}
-use Rattle.tables.specs.Tables.{nodes, built, Lent}
+use Rattle.tables.specs.Tables.{Tables, nodes, built, Lent}
 use Rattle.tables.specs.Walks.{child_by}
 use Rattle.tables.specs.Inserted.{unshifted}
-use Rattle.trie.specs.Answers.{tables, tree_only}
 use Rattle.trie.specs.Chain.{Kids}
 
 -- A list with entry v lowered to s.
@@ -50,11 +49,12 @@ handed_down parent (suc many) v l =
     let low = min (get_or l.whole v 0) (get_or l.whole (get_or parent v 0) 0) in
     handed_down parent many (v + 1) (record { met = lowered l.met v low; whole = set l.whole v low })
 
--- What walks need: a child of a node is a node, `kids` are the root's children by label, and both lists have an entry for each node.
-pub record Walkable (label first next : List ℕ) (count : ℕ) (kids met whole : List ℕ) : Type 0 where
+-- What walks down the tree need: a child of a node is a node, `kids` are the root's children by label, and both lists have an entry for each
+-- node.
+pub record Walkable (tree : Tables) (count : ℕ) (kids met whole : List ℕ) : Type 0 where
   pub some-node : 0 < count
-  pub below : (v x w : ℕ) → v < count → child_by (tree_only [] label [] first next) count v x ≡ some w → w < count
-  pub heads : Kids label first next count kids
+  pub below : (v x w : ℕ) → v < count → child_by tree count v x ≡ some w → w < count
+  pub heads : Kids tree.label tree.first tree.next count kids
   pub mets : count ≤ length met
   pub wholes : count ≤ length whole
 
@@ -75,10 +75,10 @@ pub record Shortest (book : List ℕ) (shortest : ℕ) : Type 0 where
   pub read : read_book book ≡ accepted tokens
   pub short : shortest ≡ shortest_of tokens
 
--- The tree of the book's words stands in the tables, and there is room for a shift for each of the `count` nodes.
-pub record Shiftable (book parent label first next shift : List ℕ) (count shortest : ℕ) : Type 0 where
+-- The tree of the book's words stands in the tables, but for their tokens' numbers, and there is room for a shift for each of the `count` nodes.
+pub record Shiftable (book : List ℕ) (t : Tables) (count shortest : ℕ) : Type 0 where
   pub given : Shortest book shortest
   pub token : List ℕ
-  pub tree : Lent (tables parent label token first next shift) (unshifted (built given.tokens))
+  pub tree : Lent (record t { token = token }) (unshifted (built given.tokens))
   pub size : count ≡ length (nodes (all_words given.tokens))
-  pub room : count ≤ length shift
+  pub room : count ≤ length t.shift

@@ -110,8 +110,7 @@ pub record Kept (t t' : Tables) : Type 0 where
   pub nexts : length t'.next ≡ length t.next
 
 -- The book is read, and the tables have room for all words of its bodies.
-pub record Fillable (book : List ℕ) (t : Tables) (many : ℕ) : Type 0 where
+pub record Fillable (book : List ℕ) (t : Tables) : Type 0 where
   pub tokens : List (List ℕ)
   pub read : read_book book ≡ accepted tokens
-  pub count : many ≡ length tokens
   pub room : Room t (1 + body_bytes tokens)

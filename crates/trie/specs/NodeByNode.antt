@@ -1,16 +1,8 @@
 -- What the test of tables, node by node, has of the nodes that passed.
-use Rattle.std.specs.Prelude.{ℕ, ◌+◌, ◌≤◌, ◌<◌, ◌≡◌, true, length}
+use Rattle.std.specs.Prelude.{ℕ, ◌+◌, ◌≤◌, ◌<◌, ◌≡◌, true}
 use Rattle.tables.specs.Tables.{Tables}
 use Rattle.tables.specs.Broken.{max_number, linked, shifts}
 use Rattle.tables.specs.Shape.{up, head, sib, num}
-
--- the tables but that of the labels have n entries at least
-pub record Reach (t : Tables) (n : ℕ) : Type 0 where
-  pub parents : n ≤ length t.parent
-  pub tokens : n ≤ length t.token
-  pub firsts : n ≤ length t.first
-  pub nexts : n ≤ length t.next
-  pub shifts : n ≤ length t.shift
 
 -- node v passes but for its own parent and depth, and the next node is its first child
 pub record Chained (t : Tables) (count v : ℕ) : Type 0 where

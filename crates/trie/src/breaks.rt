@@ -1,134 +1,77 @@
 // Refusal 9: the first node that breaks the tables, found in one pass over the nodes.
-ghost use Rattle.std.specs.Prelude.{◌≡◌, ◌&&◌, [], ◌-◌, ◌≤◌, ◌<◌, leb, length};
+ghost use Rattle.std.specs.Prelude.{◌≡◌, ◌&&◌, ◌-◌, ◌≤◌, ◌<◌, leb, length};
+ghost use Rattle.tables.specs.Tables.{shortest_table};
 ghost use Rattle.tables.specs.Broken.{max_shift, linked, sound, first_break, broken, tested};
 ghost use Rattle.tables.specs.Shape.{up};
-ghost use Rattle.trie.specs.Answers.{tables, tree_only, tested_of, own_sound};
-ghost use Rattle.trie.specs.InPlace.{Room};
-ghost use Rattle.trie.specs.NodeByNode.{Reach, Chain};
+ghost use Rattle.trie.specs.Answers.{tested_of, own_sound};
+ghost use Rattle.trie.specs.Lent.{tables_of};
+ghost use Rattle.trie.specs.NodeByNode.{Chain};
 
-use crate::Tested;
 use crate::climbs::depth_at;
-use crate::entries::{least, shortest, wide};
+use crate::{Broken, Tables};
 use book::Book;
 
 // A link from `node` to `at` is 0, or leads to a later node with the parent `above`.
-fn link_sound(parent: &[u16], count: usize, node: usize, at: usize, above: usize) -> bool
-    requires { count ≤ length parent.now }
-    ensures { result ≡ linked (tree_only parent.now [] [] [] []) count node at above }
+fn link_sound(tables: &Tables, count: usize, node: usize, at: usize, above: usize) -> bool
+    requires { count ≤ length (tables_of tables.now).parent }
+    ensures { result ≡ linked (tables_of tables.now) count node at above }
 {
-    if at == 0 {
-        return true;
-    }
-    if at <= node {
-        return false;
-    }
-    if count <= at {
-        return false;
-    }
-    wide(parent[at]) == above
+    at == 0 || (node < at && at < count && usize::from(tables.parent[at]) == above)
 }
 
 // A shift is 1 to 1,024.
 fn shift_sound(by: u16) -> bool
     ensures { result ≡ (leb 1 by && leb by max_shift) }
 {
-    if by == 0 {
-        return false;
-    }
-    wide(by) <= Book::BODY
+    1 <= by && usize::from(by) <= Book::BODY
 }
 
 // The root has 0 for parent, label, token and sibling, its first child has it for parent, and its shift is in range.
-fn root_sound(
-    parent: &[u16],
-    label: &[u8],
-    token: &[u16],
-    first: &[u16],
-    next: &[u16],
-    shift: &[u16],
-    count: usize,
-) -> bool
-    requires { Room (tree_only parent.now label.now token.now first.now next.now) count × (0 < count)
-        × (count ≤ length shift.now) }
-    ensures { result ≡ sound
-        (tables parent.now label.now token.now first.now next.now shift.now)
-        count 0 }
+fn root_sound(tables: &Tables, count: usize) -> bool
+    requires { (count ≤ shortest_table (tables_of tables.now)) × (0 < count) }
+    ensures { result ≡ sound (tables_of tables.now) count 0 }
 {
-    if parent[0] != 0 {
-        return false;
-    }
-    if label[0] != 0 {
-        return false;
-    }
-    if token[0] != 0 {
-        return false;
-    }
-    if next[0] != 0 {
-        return false;
-    }
-    if !link_sound(parent, count, 0, wide(first[0]), 0) {
-        return false;
-    }
-    shift_sound(shift[0])
+    tables.parent[0] == 0
+        && tables.label[0] == 0
+        && tables.token[0] == 0
+        && tables.next[0] == 0
+        && link_sound(tables, count, 0, usize::from(tables.first[0]), 0)
+        && shift_sound(tables.shift[0])
 }
 
 // The tests of a node after the root, but those of its parent and its depth.
-fn own_sound(
-    parent: &[u16],
-    token: &[u16],
-    first: &[u16],
-    next: &[u16],
-    shift: &[u16],
-    count: usize,
-    node: usize,
-) -> bool
-    requires { Reach (tables parent.now [] token.now first.now next.now shift.now) count × (node < count) }
-    ensures { result ≡ own_sound (tables parent.now [] token.now first.now next.now shift.now) count node }
+fn own_sound(tables: &Tables, count: usize, node: usize) -> bool
+    requires { (count ≤ shortest_table (tables_of tables.now)) × (node < count) }
+    ensures { result ≡ own_sound (tables_of tables.now) count node }
 {
-    if Book::TOKENS < wide(token[node]) {
-        return false;
-    }
-    if !link_sound(parent, count, node, wide(first[node]), node) {
-        return false;
-    }
-    if !link_sound(parent, count, node, wide(next[node]), wide(parent[node])) {
-        return false;
-    }
-    shift_sound(shift[node])
+    let above = usize::from(tables.parent[node]);
+    usize::from(tables.token[node]) <= Book::TOKENS
+        && link_sound(tables, count, node, usize::from(tables.first[node]), node)
+        && link_sound(tables, count, node, usize::from(tables.next[node]), above)
+        && shift_sound(tables.shift[node])
 }
 
 // The end of the chain from `node` on, `last` at the latest: each node before it passes, and the next node is its first child.
-fn chain_end(
-    parent: &[u16],
-    token: &[u16],
-    first: &[u16],
-    next: &[u16],
-    shift: &[u16],
-    count: usize,
-    node: usize,
-    last: usize,
-) -> usize
-    requires { Reach (tables parent.now [] token.now first.now next.now shift.now) count × (node ≤ last) × (last < count) }
-    ensures { Chain (tables parent.now [] token.now first.now next.now shift.now) count node result
-        × (result ≤ last) }
+fn chain_end(tables: &Tables, count: usize, node: usize, last: usize) -> usize
+    requires { (count ≤ shortest_table (tables_of tables.now)) × (node ≤ last) × (last < count) }
+    ensures { Chain (tables_of tables.now) count node result × (result ≤ last) }
 {
     let mut at = node;
     while at < last {
         // By counting, and tested before the link: a turn that went where a link leads would wait for it to be read.
         let after = at + 1;
-        if wide(parent[after]) != at {
-            return at;
-        }
-        if Book::TOKENS < wide(token[at]) {
-            return at;
-        }
-        if !link_sound(parent, count, at, wide(next[at]), wide(parent[at])) {
-            return at;
-        }
-        if !shift_sound(shift[at]) {
-            return at;
-        }
-        if wide(first[at]) != after {
+        if usize::from(tables.parent[after]) != at
+            || Book::TOKENS < usize::from(tables.token[at])
+            || !link_sound(
+                tables,
+                count,
+                at,
+                usize::from(tables.next[at]),
+                usize::from(tables.parent[at]),
+            )
+            || !shift_sound(tables.shift[at])
+            || usize::from(tables.first[at]) != after
+        {
             return at;
         }
         at = after;
@@ -137,64 +80,47 @@ fn chain_end(
 }
 
 // The first node after the root that breaks the tables, chain by chain.
-fn later_break(
-    parent: &[u16],
-    token: &[u16],
-    first: &[u16],
-    next: &[u16],
-    shift: &[u16],
-    count: usize,
-) -> Tested
-    requires { Reach (tables parent.now [] token.now first.now next.now shift.now) count
-        × (0 < count) × (up (tables parent.now [] token.now first.now next.now shift.now) 0 ≡ 0) }
-    ensures { tested_of result ≡ tested (first_break
-        (tables parent.now [] token.now first.now next.now shift.now) count (count - 1) 1) }
+fn later_break(tables: &Tables, count: usize) -> Result<(), Broken>
+    requires { (count ≤ shortest_table (tables_of tables.now)) × (0 < count) × (up (tables_of tables.now) 0 ≡ 0) }
+    ensures { tested_of result ≡ tested (first_break (tables_of tables.now) count (count - 1) 1) }
 {
     let mut node = 1;
     let mut depth = 0;
+    // By hand, since a turn goes on behind the chain that it tested.
     while node < count {
-        let above = wide(parent[node]);
+        let above = usize::from(tables.parent[node]);
         if node <= above {
-            return Tested::Breaks(node);
+            return Err(Broken { node });
         }
         // The parents up to here are smaller nodes, so the way up ends.
-        depth = depth_at(parent, node, above, depth);
+        depth = depth_at(tables, node, above, depth);
         if Book::BODY < depth {
-            return Tested::Breaks(node);
+            return Err(Broken { node });
         }
-        let last = least(count - 1, node + (Book::BODY - depth));
-        let end = chain_end(parent, token, first, next, shift, count, node, last);
-        if !own_sound(parent, token, first, next, shift, count, end) {
-            return Tested::Breaks(end);
+        let last = (count - 1).min(node + (Book::BODY - depth));
+        let end = chain_end(tables, count, node, last);
+        if !own_sound(tables, count, end) {
+            return Err(Broken { node: end });
         }
         depth += end - node;
         node = end + 1;
     }
-    Tested::Sound
+    Ok(())
 }
 
 // The shortest length where a table is shorter than the count, else the first node that breaks the tables.
-pub fn first_break(
-    parent: &[u16],
-    label: &[u8],
-    token: &[u16],
-    first: &[u16],
-    next: &[u16],
-    shift: &[u16],
-    count: usize,
-) -> Tested
-    ensures { tested_of result ≡ tested (broken
-        (tables parent.now label.now token.now first.now next.now shift.now) count) }
+pub fn first_break(tables: &Tables, count: usize) -> Result<(), Broken>
+    ensures { tested_of result ≡ tested (broken (tables_of tables.now) count) }
 {
-    let least = shortest(parent, label, token, first, next, shift);
-    if least < count {
-        return Tested::Breaks(least);
+    let shortest = tables.shortest();
+    if shortest < count {
+        return Err(Broken { node: shortest });
     }
     if count == 0 {
-        return Tested::Sound;
+        return Ok(());
     }
-    if !root_sound(parent, label, token, first, next, shift, count) {
-        return Tested::Breaks(0);
+    if !root_sound(tables, count) {
+        return Err(Broken { node: 0 });
     }
-    later_break(parent, token, first, next, shift, count)
+    later_break(tables, count)
 }

@@ -5,51 +5,38 @@
 mod breaks;
 pub mod chain;
 mod climbs;
-pub mod entries;
+mod entries;
 mod fill;
 mod grow;
 mod insert;
+mod lent;
 mod shifts;
 mod walks;
 
 ghost use Rattle.std.specs.Prelude.{◌≡◌};
-ghost use Rattle.book.specs.Book.{refusal_in};
 ghost use Rattle.tables.specs.Tables.{build};
-ghost use Rattle.trie.specs.Answers.{tables, tested_of, answer_of};
+ghost use Rattle.trie.specs.Answers.{break_of, refusal_of, answer_of};
+ghost use Rattle.trie.specs.Lent.{written_of, SameMemory};
 
-use book::{Numbered, Reading, Refusal};
+use book::Numbered;
 pub use breaks::first_break;
-use entries::shortest;
 use fill::fill;
+pub use lent::{Tables, TablesMut};
 use shifts::fill_shifts;
 
-// The child of a node with a label, by its number.
+// Refusal 9: the first node that breaks the tables, or the length of a table that is too short.
 #[derive(Clone, Copy)]
-pub enum Child {
-    At(usize),
-    Absent,
+pub struct Broken {
+    pub node: usize,
 }
 
-// Whether tables are a tree, or else the value of refusal 9.
-#[derive(Clone, Copy)]
-pub enum Tested {
-    Sound,
-    Breaks(usize),
-}
-
-impl Tested {
+impl Broken {
     pub fn numbered(self) -> Numbered
-        ensures { (result.number ≡ (refusal_in (tested_of self)).0) × (result.value ≡ (refusal_in (tested_of self)).1) }
+        ensures { (result.number ≡ (break_of self).0) × (result.value ≡ (break_of self).1) }
     {
-        match self {
-            Tested::Sound => Numbered {
-                number: 0,
-                value: 0,
-            },
-            Tested::Breaks(node) => Numbered {
-                number: 9,
-                value: node,
-            },
+        Numbered {
+            number: 9,
+            value: self.node,
         }
     }
 }
@@ -62,25 +49,20 @@ pub struct Sizes {
     pub longest: usize,
 }
 
-// What building answers: the sizes, the book's refusal, or refusal 7 with the length that was wanted.
+// Why nothing is built: the book's refusal, or refusal 7 with the length that was wanted.
 #[derive(Clone, Copy)]
-pub enum Building {
-    Made(Sizes),
-    Unread(Refusal),
+pub enum Refusal {
+    Unread(book::Refusal),
     TooShort(usize),
 }
 
-impl Building {
+impl Refusal {
     pub fn numbered(self) -> Numbered
-        ensures { (result.number ≡ (refusal_in (answer_of self)).0) × (result.value ≡ (refusal_in (answer_of self)).1) }
+        ensures { (result.number ≡ (refusal_of self).0) × (result.value ≡ (refusal_of self).1) }
     {
         match self {
-            Building::Made(_) => Numbered {
-                number: 0,
-                value: 0,
-            },
-            Building::Unread(why) => why.numbered(),
-            Building::TooShort(room) => Numbered {
+            Refusal::Unread(why) => why.numbered(),
+            Refusal::TooShort(room) => Numbered {
                 number: 7,
                 value: room,
             },
@@ -88,46 +70,45 @@ impl Building {
     }
 }
 
+impl From<book::Refusal> for Refusal {
+    ghost use Rattle.std.specs.Prelude.{◌≡◌};
+    ghost use Rattle.trie.specs.declared.Refusal.TheVariants.{Unread};
+
+    ghost from_gives = { λ why r. r ≡ Unread why };
+
+    fn from(why: book::Refusal) -> Refusal {
+        Self::Unread(why)
+    }
+}
+
 // The tables of a book, written from the front; what follows the last node stays, and on a refusal all of it.
-pub fn build(
-    book: &[u8],
-    parent: &mut [u16],
-    label: &mut [u8],
-    token: &mut [u16],
-    first: &mut [u16],
-    next: &mut [u16],
-    shift: &mut [u16],
-) -> Building
-    ensures { record {
+pub fn build(book: &[u8], tables: &mut TablesMut) -> Result<Sizes, Refusal>
+    ensures answer { record {
       answer = answer_of result;
-      tables = tables parent.new label.new token.new first.new next.new shift.new;
+      tables = written_of tables.new;
     }
-        ≡ build book.now
-        (tables parent.old label.old token.old first.old next.old shift.old) }
+        ≡ build book.now (written_of tables.old) }
+    ensures lent { SameMemory tables.old tables.new }
 {
-    match book::read(book) {
-        Reading::Refused(why) => Building::Unread(why),
-        Reading::Accepted(totals) => {
-            let room = 1 + totals.bodies;
-            if shortest(parent, label, token, first, next, shift) < room {
-                return Building::TooShort(room);
-            }
-            let nodes = fill(book, parent, label, token, first, next, totals.tokens);
-            fill_shifts(
-                book,
-                parent,
-                label,
-                first,
-                next,
-                shift,
-                nodes,
-                totals.shortest,
-            );
-            Building::Made(Sizes {
-                nodes,
-                shortest: totals.shortest,
-                longest: totals.longest,
-            })
-        }
+    let totals = book::read(book)?;
+    let room = 1 + totals.bodies;
+    if tables.shared().shortest() < room {
+        return Err(Refusal::TooShort(room));
     }
+    let nodes = fill(book, tables);
+    fill_shifts(
+        book,
+        tables.parent,
+        tables.label,
+        tables.first,
+        tables.next,
+        tables.shift,
+        nodes,
+        totals.shortest,
+    );
+    Ok(Sizes {
+        nodes,
+        shortest: totals.shortest,
+        longest: totals.longest,
+    })
 }

@@ -1,179 +1,124 @@
 // Walks of the words without their last s bytes, from the right down the tree: each node that is met is lowered to s.
-ghost use Rattle.std.specs.Prelude.{◌≡◌, List, [], reverse, ℕ, ◌-◌, ◌≤◌, ◌<◌, length};
+ghost use Rattle.std.specs.Prelude.{◌≡◌, List, reverse, ℕ, ◌-◌, ◌≤◌, ◌<◌, length, get_or};
 ghost use Rattle.rules.specs.Words.{words_of, all_words};
 ghost use Rattle.rules.specs.Tokens.{shortened};
 ghost use Rattle.book.specs.Book.{read_book, accepted};
-ghost use Rattle.tables.specs.Walks.{child_by};
-ghost use Rattle.trie.specs.Answers.{tree_only};
 ghost use Rattle.trie.specs.Filling.{lowered, lows, walked_at, word_walked, words_walked};
-ghost use Rattle.trie.specs.Filling.{Walkable, head_at, NextMet, Shortest};
-ghost use Rattle.trie.specs.InPlace.{reversed_if};
+ghost use Rattle.trie.specs.Filling.{head_at, NextMet, Shortest};
+ghost use Rattle.trie.specs.Lent.{word_of, child_in, MayWalk};
 
-use crate::Child;
+use crate::Tables;
 use crate::chain::child;
-use crate::entries::wide;
-use crate::insert::byte_at;
+use crate::insert::Word;
 use book::words::has_reverse;
+
+// What all walks go by: the tree, how many nodes it has, the root's children by label, and S.
+#[derive(Drop)]
+pub struct Walks<'a> {
+    pub tree: Tables<'a>,
+    pub count: usize,
+    pub kids: [u16; 256],
+    pub shortest: usize,
+}
 
 // Lowers the entry of node v to s.
 pub fn lower(table: &mut [u16], v: usize, s: usize)
     requires { (v < length table.old) × (s < 65536) }
     ensures { table.new ≡ lowered table.old v s }
 {
-    if wide(table[v]) <= s {
-        return;
+    if s < usize::from(table[v]) {
+        table[v] = s as u16;
     }
-    table[v] = s as u16;
 }
 
-// The next shift from s on, below `end`, at which the root has a child for the last byte that is left of the word; or `end`.
-fn next_met(body: &[u8], reversed: bool, kids: &[u16], s: usize, end: usize) -> usize
-    requires { (s ≤ end) × (end ≤ length body.now) × (length kids.now ≡ 256) }
-    ensures { NextMet kids.now (reversed_if reversed body.now) s end result }
-{
-    let mut at = s;
-    while at < end {
-        let x = byte_at(body, reversed, body.len() - 1 - at);
-        if kids[x as usize] != 0 {
-            return at;
-        }
-        at += 1;
-    }
-    at
-}
-
-// A walk at s, by the word without its last s bytes: down from the root's child for the last of them, which is there.
-fn walk_at(
-    body: &[u8],
-    reversed: bool,
-    label: &[u8],
-    first: &[u16],
-    next: &[u16],
-    count: usize,
-    kids: &[u16],
-    s: usize,
-    met: &mut [u16],
-    whole: &mut [u16],
-)
-    requires walks { Walkable label.now first.now next.now count kids.now met.old whole.old }
-    requires head { (s < length body.now) × (s < 65536) × (head_at kids.now (reversed_if reversed body.now) s ≡ 0 → ⊥) }
-    ensures { lows met.new whole.new
-        ≡ walked_at (child_by (tree_only [] label.now [] first.now next.now) count) s
-        (reverse (shortened (reversed_if reversed body.now) s)) 0 (lows met.old whole.old) }
-{
-    let mut left = body.len() - 1 - s;
-    let x = byte_at(body, reversed, left);
-    let mut node = wide(kids[x as usize]);
-    lower(met, node, s);
-    while left != 0 {
-        left -= 1;
-        let x = byte_at(body, reversed, left);
-        match child(label, first, next, count, node, x) {
-            Child::Absent => return,
-            Child::At(v) => {
-                lower(met, v, s);
-                node = v;
+impl Walks<'_> {
+    // The next shift from s on, below S, at which the root has a child for the last byte that is left of the word; or S.
+    fn next_met(&self, word: Word<'_>, s: usize) -> usize
+        requires { (s ≤ self.now.shortest) × (self.now.shortest ≤ length word.body.now) × (length self.now.kids ≡ 256) }
+        ensures { NextMet self.now.kids (word_of word.entry) s self.now.shortest result }
+    {
+        for at in s..self.shortest {
+            let x = word.from_end(at);
+            if self.kids[usize::from(x)] != 0 {
+                return at;
             }
         }
+        self.shortest
     }
-    lower(whole, node, s);
-}
 
-// The walks of one word, the body in book order or reversed, at the shifts from 1 below S.
-fn walk_word(
-    body: &[u8],
-    reversed: bool,
-    label: &[u8],
-    first: &[u16],
-    next: &[u16],
-    count: usize,
-    kids: &[u16],
-    shortest: usize,
-    met: &mut [u16],
-    whole: &mut [u16],
-)
-    requires walks { Walkable label.now first.now next.now count kids.now met.old whole.old }
-    requires short { (1 ≤ shortest) × (shortest ≤ length body.now) × (shortest < 65536) }
-    ensures { lows met.new whole.new
-        ≡ word_walked (child_by (tree_only [] label.now [] first.now next.now) count)
-        (reversed_if reversed body.now) 1 (shortest - 1) (lows met.old whole.old) }
-{
-    let mut s = 1;
-    while s < shortest {
-        let at = next_met(body, reversed, kids, s, shortest);
-        if at == shortest {
-            return;
+    // A walk at s, by the word without its last s bytes: down from the root's child for the last of them, which is there.
+    fn walk_at(&self, word: Word<'_>, s: usize, met: &mut [u16], whole: &mut [u16])
+        requires walks { MayWalk self.now met.old whole.old }
+        requires head { (s < length word.body.now) × (s < 65536) × (head_at self.now.kids (word_of word) s ≡ 0 → ⊥) }
+        ensures { lows met.new whole.new
+            ≡ walked_at (child_in self.now) s
+            (reverse (shortened (word_of word.entry) s)) 0 (lows met.old whole.old) }
+    {
+        let mut node = usize::from(self.kids[usize::from(word.from_end(s))]);
+        lower(met, node, s);
+        for i in s + 1..word.body.len() {
+            match child(&self.tree, self.count, node, word.from_end(i)) {
+                None => return,
+                Some(v) => {
+                    lower(met, v, s);
+                    node = v;
+                }
+            }
         }
-        walk_at(
-            body, reversed, label, first, next, count, kids, at, met, whole,
-        );
-        s = at + 1;
+        lower(whole, node, s);
     }
-}
 
-// Those of the words of a body.
-fn walk_words(
-    body: &[u8],
-    label: &[u8],
-    first: &[u16],
-    next: &[u16],
-    count: usize,
-    kids: &[u16],
-    shortest: usize,
-    met: &mut [u16],
-    whole: &mut [u16],
-)
-    requires walks { Walkable label.now first.now next.now count kids.now met.old whole.old }
-    requires short { (1 ≤ shortest) × (shortest ≤ length body.now) × (shortest < 65536) }
-    ensures { lows met.new whole.new
-        ≡ words_walked (child_by (tree_only [] label.now [] first.now next.now) count) shortest
-        (words_of body.now) (lows met.old whole.old) }
-{
-    walk_word(
-        body, false, label, first, next, count, kids, shortest, met, whole,
-    );
-    if !has_reverse(body) {
-        return;
+    // The walks of one word at the shifts from 1 below S.
+    fn walk_word(&self, word: Word<'_>, met: &mut [u16], whole: &mut [u16])
+        requires walks { MayWalk self.now met.old whole.old }
+        requires short { (1 ≤ self.now.shortest) × (self.now.shortest ≤ length word.body.now) × (self.now.shortest < 65536) }
+        requires bytes { (j : ℕ) → get_or word.body.now j 0 < 256 }
+        ensures { lows met.new whole.new
+            ≡ word_walked (child_in self.now) (word_of word.entry) 1 (self.now.shortest - 1) (lows met.old whole.old) }
+    {
+        let mut s = 1;
+        // By hand, since a turn goes on behind the shift that it found.
+        while s < self.shortest {
+            let at = self.next_met(word, s);
+            if at == self.shortest {
+                return;
+            }
+            self.walk_at(word, at, met, whole);
+            s = at + 1;
+        }
     }
-    walk_word(
-        body, true, label, first, next, count, kids, shortest, met, whole,
-    );
-}
 
-// Those of all words of the book, record by record; it ends with 00h.
-pub fn walk_book(
-    book: &[u8],
-    label: &[u8],
-    first: &[u16],
-    next: &[u16],
-    count: usize,
-    kids: &[u16],
-    shortest: usize,
-    met: &mut [u16],
-    whole: &mut [u16],
-)
-    requires walks { Walkable label.now first.now next.now count kids.now met.old whole.old }
-    requires book { Shortest book.now shortest }
-    ensures { (ts : List (List ℕ)) → read_book book.now ≡ accepted ts
-        → lows met.new whole.new
-        ≡ words_walked (child_by (tree_only [] label.now [] first.now next.now) count) shortest
-        (all_words ts) (lows met.old whole.old) }
-{
-    let mut at = 0;
-    while at + 1 < book.len() {
-        let start = at + 1;
-        let end = start + book::body_at(book, at);
-        walk_words(
-            &book[start..end],
-            label,
-            first,
-            next,
-            count,
-            kids,
-            shortest,
-            met,
-            whole,
-        );
-        at = end;
+    // Those of the words of a body.
+    fn walk_words(&self, body: &[u8], met: &mut [u16], whole: &mut [u16])
+        requires walks { MayWalk self.now met.old whole.old }
+        requires short { (1 ≤ self.now.shortest) × (self.now.shortest ≤ length body.now) × (self.now.shortest < 65536) }
+        ensures { lows met.new whole.new
+            ≡ words_walked (child_in self.now) self.now.shortest (words_of body.now) (lows met.old whole.old) }
+    {
+        let own = Word {
+            body,
+            reversed: false,
+        };
+        self.walk_word(own, met, whole);
+        if has_reverse(body) {
+            let reverse = Word {
+                body,
+                reversed: true,
+            };
+            self.walk_word(reverse, met, whole);
+        }
+    }
+
+    // Those of all words of the book, body by body.
+    pub fn walk_book(&self, book: &[u8], met: &mut [u16], whole: &mut [u16])
+        requires walks { MayWalk self.now met.old whole.old }
+        requires book { Shortest book.now self.now.shortest }
+        ensures { (ts : List (List ℕ)) → read_book book.now ≡ accepted ts
+            → lows met.new whole.new
+            ≡ words_walked (child_in self.now) self.now.shortest (all_words ts) (lows met.old whole.old) }
+    {
+        for body in book::bodies(book) {
+            self.walk_words(body, met, whole);
+        }
     }
 }

@@ -1,16 +1,14 @@
 // One node of the tables, through a view that borrows the book: its entries, and where its token's body stands in the book.
 #![tactic(auto)]
 
-mod entries;
-
 ghost use Rattle.std.specs.Prelude.{◌≡◌};
 ghost use Rattle.book.specs.Book.{read_book, place_in};
 ghost use Rattle.trie.specs.Answers.{tables};
+ghost use Rattle.trie.specs.Lent.{tables_of};
 ghost use Rattle.view.specs.View.{body_of, node_of};
 
 use book::Place;
-use entries::entry;
-use trie::entries::{label_at, wide};
+use trie::Tables;
 
 // A node's six entries, and the place and length of its token's body; 0 for what there is not.
 #[derive(Clone, Copy)]
@@ -25,55 +23,31 @@ pub struct Node {
     pub length: usize,
 }
 
-// Place and length of a body.
-#[derive(Clone, Copy)]
-struct Body {
-    place: usize,
-    length: usize,
-}
-
 // Where the body of token number `i` stands.
-fn body_of(book: &[u8], i: usize) -> Body
+fn body_of(book: &[u8], i: usize) -> Place
     ensures { result ≡ body_of (place_in (read_book book.now) i) }
 {
     match book::token(book, i) {
-        Place::Found(place, length) => Body { place, length },
-        Place::Missing => Body {
-            place: 0,
-            length: 0,
-        },
-        Place::Unread(_) => Body {
-            place: 0,
-            length: 0,
-        },
+        Ok(Some(place)) => place,
+        _ => Place { at: 0, size: 0 },
     }
 }
 
 // What the view shows of a node, from the book and the tables themselves.
-pub fn node_of(
-    book: &[u8],
-    parent: &[u16],
-    label: &[u8],
-    token: &[u16],
-    first: &[u16],
-    next: &[u16],
-    shift: &[u16],
-    node: usize,
-) -> Node
-    ensures { result ≡ node_of book.now
-        (tables parent.now label.now token.now first.now next.now shift.now) node }
+pub fn node_of(book: &[u8], tables: &Tables, node: usize) -> Node
+    ensures { result ≡ node_of book.now (tables_of tables.now) node }
 {
-    let ends = entry(token, node);
-    let body = body_of(book, wide(ends));
+    let token = tables.token.get(node).copied().unwrap_or(0);
+    let body = body_of(book, usize::from(token));
     Node {
-        parent: entry(parent, node),
-        label: label_at(label, node),
-        token: ends,
-        first: entry(first, node),
-        next: entry(next, node),
-        shift: entry(shift, node),
-        place: body.place,
-        length: body.length,
+        parent: tables.parent.get(node).copied().unwrap_or(0),
+        label: tables.label.get(node).copied().unwrap_or(0),
+        token,
+        first: tables.first.get(node).copied().unwrap_or(0),
+        next: tables.next.get(node).copied().unwrap_or(0),
+        shift: tables.shift.get(node).copied().unwrap_or(0),
+        place: body.at,
+        length: body.size,
     }
 }
 
@@ -84,7 +58,7 @@ pub struct View<'a> {
 }
 
 impl<'a> View<'a> {
-    // A node's entries, and the place and length of its token's body in the book.
+    // A node's entries, and the place and length of its token's body in the book. The form of this call, with six slices, is fixed.
     pub fn node(
         self,
         parent: &[u16],
@@ -99,6 +73,14 @@ impl<'a> View<'a> {
             (tables parent.now label.now token.now
             first.now next.now shift.now) node }
     {
-        node_of(self.book, parent, label, token, first, next, shift, node)
+        let tables = Tables {
+            parent,
+            label,
+            token,
+            first,
+            next,
+            shift,
+        };
+        node_of(self.book, &tables, node)
     }
 }

@@ -1,22 +1,23 @@
 -- The reader's loop over plain lists: what holds at each record, and what each way out of it answers.
-use Prim.Native.Nat.{ℕ, zero, suc, ◌+◌, ◌≤◌, ◌<◌}
+use Prim.Native.Nat.{ℕ, zero, suc, ◌+◌, ◌-◌, ◌≤◌, ◌<◌}
 use native.Mathlib.Omega.{arith}
 use mathlib.Core.Bool.{Bool, true, false, ◌||◌}
 use mathlib.Core.List.{List, [], ◌∷◌, ◌++◌}
 use mathlib.Core.Path.{◌≡◌, refl, ap, sym, ◌∙◌}
-use borrow.Author.Tests.{le-leb, lt-leb, lt-ltb, le-ltb, eq-eqb, ne_eqb, leb-false, ltb-false}
+use borrow.Author.Tests.{lt-leb, le-ltb, ne_eqb, leb-false, ltb-false}
 use lib.Dec.{leb, ltb}
 use lib.ListN.{length, take, drop}
 use Rattle.rules.specs.Lists.{any_of}
 use Rattle.rules.specs.Words.{words_of, is_word}
 use Rattle.rules.specs.Tokens.{total, body_bytes}
 use Rattle.rules.proofs.Laws.Tests.{or-nl, or-nr}
-use Rattle.rules.proofs.Laws.Words.{bytes-snoc}
-use Rattle.book.specs.Book.{Reading, refused, max_tokens, max_bodies, kind_at, size_at, body_at, over_limits, repeats, closed, read_from, read_book, summary}
+use Rattle.rules.proofs.Laws.Words.{bytes-snoc, words-bytes}
+use Rattle.book.specs.Book.{Reading, refused, bodies_in, max_tokens, max_bodies, max_body, kind_at, size_at, body_at, over_limits, repeats, read_from, read_book, summary}
 use Rattle.book.specs.Answers.{Amounts}
 use Rattle.book.specs.Filter.{Covers}
-use Rattle.book.proofs.Laws.Taken.{Opened, Taken, opened-length}
+use Rattle.book.proofs.Laws.Taken.{Opened, Taken, opened-range, opened-length}
 use Rattle.book.proofs.Laws.Records.{upto-more}
+use Rattle.book.proofs.Laws.Bodies.{upto-bodies}
 use Rattle.book.specs.declared.Totals.{Totals}
 use Rattle.book.specs.Records.{Upto}
 
@@ -58,23 +59,12 @@ module _ {book : List ℕ} {at : ℕ} {t : Totals} {filter : List ℕ} (w : Walk
   says : (v : Reading) → read_from book (suc w.fuel) at w.tokens ≡ v → summary v ≡ summary (read_book book)
   says v e = ap summary (sym e ∙ w.rest)
 
-  pub missing : length book ≤ at → refused 1 (length book) ≡ summary (read_book book)
-  missing h = says (refused 1 (length book)) (rw (le-leb (length book) at h, read_from))
+  -- the body of `size` bytes, as the code cuts it out
+  abbrev part : ℕ → List ℕ
+  part size = take (at + 1 + size - (at + 1)) (drop (at + 1) book)
 
-  module _ (h : at < length book) where
-    pub unknown : 68 < kind_at book at → refused 2 at ≡ summary (read_book book)
-    unknown k = says (refused 2 at) (rw (lt-leb (length book) at h, lt-ltb 68 (kind_at book at) k, read_from))
-
-    module _ (k : kind_at book at ≤ 68) where
-      pub closes : kind_at book at ≡ 0 → summary (closed book at w.tokens) ≡ summary (read_book book)
-      closes z =
-          says (closed book at w.tokens)
-          (rw (lt-leb (length book) at h, le-ltb 68 (kind_at book at) k, eq-eqb (kind_at book at) 0 z, read_from))
-
-      pub short : (kind_at book at ≡ 0 → ⊥) → length book < at + 1 + size_at book at → refused 1 at ≡ summary (read_book book)
-      short n s =
-          says (refused 1 at)
-          (rw (lt-leb (length book) at h, le-ltb 68 (kind_at book at) k, ne_eqb (kind_at book at) 0 n, lt-ltb _ (at + 1 + size_at book at) s, read_from))
+  part_is : {size : ℕ} → size ≡ size_at book at → part size ≡ body_at book at
+  part_is {size} long = let z : at + 1 + size - (at + 1) ≡ size_at book at = omega (arith, long) in rw z
 
   -- the ways on from a whole record, by whether a limit is passed and whether the body is a repeat
   abbrev ways : Bool → Bool → Reading
@@ -87,9 +77,20 @@ module _ {book : List ℕ} {at : ℕ} {t : Totals} {filter : List ℕ} (w : Walk
         ]
       ]
 
-  -- At a whole record, with what `weight`, `over` and `repeated` answer.
-  module _ {over : Bool} {size bytes : ℕ} (o : Opened book at) (long : size ≡ size_at book at) (both : bytes ≡ total (words_of (body_at book at)))
+  -- What `over` asks.
+  pub weighs : {size bytes : ℕ} → Opened book at → size ≡ size_at book at → bytes ≡ total (words_of (part size))
+      → (t.bodies ≤ max_bodies) × (bytes ≤ max_body + max_body)
+  weighs o long weighed =
+      let small = opened-range book at o in
+      let both : _ ≡ total (words_of (body_at book at)) = weighed ∙ ap (λ b. total (words_of b)) (part_is long) in
+      omega (arith, w.amounts.bodies, w.within, words-bytes (body_at book at), opened-length book at o)
+
+  -- At a whole record, with what `weight`, `over` and `repeated` answer for its body as the code cuts it out.
+  module _ {over : Bool} {size bytes : ℕ} (o : Opened book at) (long : size ≡ size_at book at) (weighed : bytes ≡ total (words_of (part size)))
       (p : over ≡ (leb max_tokens t.tokens || ltb max_bodies (t.bodies + bytes))) where
+    both : bytes ≡ total (words_of (body_at book at))
+    both = weighed ∙ ap (λ b. total (words_of b)) (part_is long)
+
     limits : over_limits book at w.tokens ≡ over
     limits = sym (p ∙ rw (w.amounts.count, w.amounts.bodies, both))
 
@@ -108,11 +109,12 @@ module _ {book : List ℕ} {at : ℕ} {t : Totals} {filter : List ℕ} (w : Walk
     beyond e = says (refused 5 at) (rw e at opened)
 
     module _ {repeat : Bool} (after : List ℕ)
-        (q : (ts : List (List ℕ)) → Upto book at ts → Covers filter ts
-        → (repeat ≡ any_of (is_word (take size (drop (at + 1) book))) ts) × Covers after (ts ++ (take size (drop (at + 1) book) ∷ [])))
-        (e : over ≡ false) where
+        (q : Covers filter (bodies_in (take at book)) → (repeat ≡ any_of (is_word (part size)) (bodies_in (take at book)))
+        × Covers after (bodies_in (take at book) ++ (part size ∷ []))) (e : over ≡ false) where
       told : (repeat ≡ repeats book at w.tokens) × Covers after (w.tokens ++ (body_at book at ∷ []))
-      told = rw long at (q w.tokens w.upto w.covers)
+      told =
+          let before = upto-bodies book at w.tokens w.inside w.upto in
+          rw (part_is long, before) at (q (rw before w.covers))
 
       new : repeats book at w.tokens ≡ repeat
       new = sym told.0
@@ -130,7 +132,7 @@ module _ {book : List ℕ} {at : ℕ} {t : Totals} {filter : List ℕ} (w : Walk
           fits = room t.tokens t.bodies bytes p e
 
           taken : Taken book at w.tokens
-          taken = record { opened = o; few = omega (arith, fits, w.amounts.count); small = omega (arith, fits, w.amounts.bodies); new = new ∙ f }
+          taken = record { opened = o; few = omega (arith, fits, w.amounts.count); small = omega (arith, fits, w.amounts.bodies, both); new = new ∙ f }
 
           go : (fuel : ℕ) → length book ≤ at + fuel
               → read_from book fuel (at + 1 + size_at book at) (w.tokens ++ (body_at book at ∷ [])) ≡ read_book book

@@ -13,7 +13,7 @@ module _ (book : List ℕ) (at : ℕ) where
   abbrev pub Whole : Type 0
   Whole = (at < length book) × (kind_at book at ≤ 68) × (at + 1 + size_at book at ≤ length book)
 
-  whole-cases : (P : ℕ → Type 0) → ((Whole → ⊥) → P 0) → (Whole → P (size_at book at)) → P (whole_at book at)
+  pub whole-cases : (P : ℕ → Type 0) → ((Whole → ⊥) → P 0) → (Whole → P (size_at book at)) → P (whole_at book at)
   whole-cases P f g =
       decide P (kind_missing book at || kind_unknown book at || body_short book at) _ _
       (λ t. f (λ w. clash _ t (cc (lt-leb (length book) at w.0, le-ltb 68 (kind_at book at) w.1, le-ltb _ _ w.2))))

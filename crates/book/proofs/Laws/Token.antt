@@ -4,20 +4,15 @@ use native.Mathlib.Numerals.{add-one}
 use native.Mathlib.Omega.{arith}
 use mathlib.Core.List.{List, []}
 use mathlib.Core.Path.{◌≡◌, ap, sym, ◌∙◌}
-use borrow.Author.Tests.{le-leb, lt-leb}
 use lib.ListN.{length, get_or, take}
 use lib.Seq.{take-suc}
 use Rattle.rules.specs.Tokens.{total}
-use Rattle.book.specs.Book.{Reading, accepted, refused, found, missing, unread, whole_at, read_book, summary, place_in}
+use Rattle.book.specs.Book.{accepted, found, whole_at, read_book, summary, place_in}
 use Rattle.book.specs.Answers.{totalled}
-use Rattle.book.proofs.Laws.Accepted.{total-snoc, summed, refused_as}
+use Rattle.book.proofs.Laws.Accepted.{total-snoc, summed}
 use Rattle.book.proofs.Laws.Records.{records-at, accepted-records, accepted-place}
 use Rattle.book.specs.declared.Totals.{Totals}
 use Rattle.book.specs.Records.{Held}
-
--- The book is refused, and this is its refusal.
-pub unread-is : (r : Reading) (k v i : ℕ) → refused k v ≡ summary r → unread k v ≡ place_in r i
-unread-is r k v i e = rw (refused_as r k v e)
 
 -- The book has these tokens.
 pub record Has (book : List ℕ) (count : ℕ) : Type 0 where
@@ -27,13 +22,6 @@ pub record Has (book : List ℕ) (count : ℕ) : Type 0 where
 
 pub has : (b : List ℕ) (t : Totals) → accepted (totalled t) ≡ summary (read_book b) → Has b t.tokens
 has b t e = let s = summed b (totalled t) e in record { tokens = s.tokens; read = s.read; counted = ap (λ a. a.tokens) s.sums }
-
-module _ {book : List ℕ} {count : ℕ} (h : Has book count) (i : ℕ) where
-  pub none : i ≡ 0 → missing ≡ place_in (read_book book) i
-  none e = rw (h.read, e)
-
-  pub beyond : count < i → missing ≡ place_in (read_book book) i
-  beyond l = rw h.read (cc (le-leb 1 i (omega arith), lt-leb i (length h.tokens) (omega arith)))
 
 -- So many records are passed, and the next one stands at `at`.
 pub record Reach (book : List ℕ) (i at passed : ℕ) : Type 0 where

@@ -1,11 +1,11 @@
--- What placing a token tells of the book, and the answers that follow.
+-- What placing a token tells of the book, and the answer that follows.
 use Prim.Native.Nat.{ℕ, ◌+◌, ◌-◌, ◌≤◌, ◌<◌}
 use native.Mathlib.Omega.{arith}
 use mathlib.Core.Path.{◌≡◌, refl, ap, sym, subst, ◌∙◌}
 use mathlib.Core.Bool.{true, false}
 use mathlib.Core.List.{List, []}
-use mathlib.Core.Option.{some, none}
-use borrow.Author.Tests.{leb-true, lt-ltb, le-ltb}
+use mathlib.Core.Option.{some}
+use borrow.Author.Tests.{leb-true, le-ltb}
 use lib.Dec.{leb}
 use lib.ListN.{length, get_or, take, drop}
 use lib.Seq.{length-take-le}
@@ -15,24 +15,14 @@ use Rattle.rules.proofs.Laws.Fits.{first-cases}
 use Rattle.book.specs.Book.{Reading, accepted, refused, Place, found, missing, unread, max_image, has_token, read_book, record_place, place_in}
 use Rattle.book.specs.Records.{Held}
 use Rattle.book.proofs.Laws.Records.{accepted-held}
-use Rattle.fitting.specs.Fitting.{fits, differs, cut_off, fit_at, fit_in}
+use Rattle.fitting.specs.Fitting.{fit_at, fit_in}
 
--- The end in the image: a mismatch, or none.
+-- The end in the image: a mismatch lies left of it.
 module _ (t image : List ℕ) (end : ℕ) where
   pub differs-left : (k : ℕ) → end ≤ length image → some k ≡ mismatch (take end image) t 0 → k < end
   differs-left k inside =
       first-cases (length (take end image)) _ (λ o. some k ≡ o → k < end) (λ _ e. absurd (let z : ◌≡◌ {A = ℕ} 0 1 = cc in omega arith))
       (λ j h _ _ e. let z : k ≡ j = cc in omega (arith, length-take-le end image inside))
-
-  pub fit-differs : (k : ℕ) → some k ≡ mismatch (take end image) t 0 → accepted (differs (end - 1 - k)) ≡ accepted (fit_at t image end)
-  fit-differs k e = rw (sym e, fit_at)
-
-  module _ (e : none ≡ mismatch (take end image) t 0) where
-    pub fit_cut : end < length t → accepted cut_off ≡ accepted (fit_at t image end)
-    fit_cut l = rw (sym e, lt-ltb end (length t) l, fit_at)
-
-    pub fit-whole : length t ≤ end → accepted fits ≡ accepted (fit_at t image end)
-    fit-whole l = rw (sym e, le-ltb end (length t) l, fit_at)
 
 -- What a token's place tells of the book.
 abbrev Told : Reading → ℕ → Place → Type 0
@@ -50,19 +40,7 @@ module _ (book image : List ℕ) (i end : ℕ) where
   place-tells : {p : Place} → p ≡ place_in (read_book book) i → Told (read_book book) i p
   place-tells e = subst (Told (read_book book) i) (sym e) (told (read_book book) i)
 
-  -- 1 to 6
-  pub fit-unread : (k v : ℕ) → unread k v ≡ place_in (read_book book) i → refused k v ≡ fit_in (read_book book) image i end
-  fit-unread k v e = rw (place-tells e)
-
-  -- 8, and 16
-  module _ (e : missing ≡ place_in (read_book book) i) where
-    pub missing-long : max_image < length image → refused 8 max_image ≡ fit_in (read_book book) image i end
-    missing-long l = rw ((place-tells e).1, fit_in, lt-ltb max_image (length image) l)
-
-    pub fit-missing : length image ≤ max_image → refused 16 0 ≡ fit_in (read_book book) image i end
-    fit-missing l = rw ((place-tells e).1, fit_in, le-ltb max_image (length image) l, (place-tells e).2)
-
-  -- The token stands there: 8, 17, and how it stands at the end.
+  -- The token stands there, and how it stands at the end.
   module _ {at n : ℕ} (e : found at n ≡ place_in (read_book book) i) where
     held : Held book (record_place (place-tells e).0 (i - 1)) (get_or (place-tells e).0 (i - 1) [])
     held =
@@ -78,13 +56,7 @@ module _ (book image : List ℕ) (i end : ℕ) where
         ap (λ m. take m (drop at book)) (place-tells e).4
         ∙ ap (λ m. take (length (get_or (place-tells e).0 (i - 1) [])) (drop m book)) (place-tells e).3 ∙ held.body
 
-    pub found-long : max_image < length image → refused 8 max_image ≡ fit_in (read_book book) image i end
-    found-long l = rw ((place-tells e).1, fit_in, lt-ltb max_image (length image) l)
-
     module _ (small : length image ≤ max_image) where
-      pub found-beyond : length image < end → refused 17 0 ≡ fit_in (read_book book) image i end
-      found-beyond l = rw ((place-tells e).1, fit_in, le-ltb max_image (length image) small, (place-tells e).2, lt-ltb (length image) end l)
-
       pub found-fit : end ≤ length image → (t : List ℕ) → t ≡ take (at + n - at) (drop at book) → accepted (fit_at t image end) ≡ fit_in (read_book book) image i end
       found-fit l t is =
           let z : at + n - at ≡ n = omega arith in

@@ -1,7 +1,6 @@
 -- The answer tells how far the token agrees.
 use Rattle.std.specs.Prelude.{ℕ, ◌+◌, ◌-◌, ◌≤◌, ◌<◌, ◌≡◌, refl, Bool, true, false, not, List, [], eqb, leb, ltb, length, get_or, take}
 use Rattle.std.proofs.Common.{arith, ap, sym, ◌∙◌, eqb-true, leb-true, le-leb, le-ltb, ltb-true, ltb-false, length-take-le, get_or-take}
-use Rattle.std.proofs.Math.Option.{some, none}
 use Rattle.std.proofs.lemmas.Bool.{eqb-false, not-true, not-false}
 use Rattle.rules.specs.Tokens.{from_right, agrees, mismatch}
 use Rattle.rules.specs.Configs.{byte_of, Reads}

@@ -1,10 +1,10 @@
 -- The cache stays right where it is given a shift that is right, and the shifts fit its entries; and the greater of two shifts.
 use Prim.Native.Nat.{ℕ, ◌+◌, ◌-◌, ◌*◌, ◌≤◌, ◌<◌, max}
 use native.Mathlib.Omega.{arith}
-use mathlib.Core.Path.{◌≡◌, ap, ◌∙◌}
+use mathlib.Core.Path.{◌≡◌, ap, sym, ◌∙◌}
 use mathlib.Core.Bool.{Bool, true}
 use mathlib.Core.List.{List, []}
-use mathlib.Core.Option.{Option, some, none}
+use mathlib.Core.Option.{Option, some}
 use lib.ListN.{length, get_or, set, length-set}
 use lib.Seq.{get_or-set_same, get_or-set_other}
 use mir.Syntax.{w16}
@@ -19,7 +19,11 @@ use Rattle.rules.proofs.Laws.Lengths.{shortest-is}
 use Rattle.book.proofs.Laws.Accepted.{accepted-some}
 use Rattle.agree.specs.Tests.{least_of}
 use Rattle.agree.proofs.Laws.Least.{least-bounds}
-use Rattle.image.specs.Rule5.{tokens_of, words_in, Accepted, Right, ByByte}
+use Rattle.image.specs.declared.caches.Caches.{Caches}
+use Rattle.std.specs.Prelude.{Option as Answer}
+use Rattle.rules.specs.Options.{option_of}
+use Rattle.image.specs.Rule5.{tokens_of, words_in, Accepted, Right}
+use Rattle.image.specs.Sweeping.{Sees, CachesRight}
 use Rattle.image.proofs.Laws.Rule5.{shortest-near}
 
 -- An entry of the cache that is given `by` at i.
@@ -34,19 +38,26 @@ least_fits p {book} {S} a by e =
     let near = shortest-near a in
     record { fits = omega (arith, least-bounds p (words_in book) S near.0) }
 
-module _ {book : List ℕ} {S : ℕ} {cache : List ℕ} (by : ℕ) where
-  -- Two places of a cache by depth and byte are one only if depth and byte are the same.
-  pub by-byte-set : ByByte book S cache → (depth byte : ℕ) → depth < 64 → byte < 256
-      → by ≡ byte_shift (words_in book) S depth (some byte) → ByByte book S (set cache (256 * depth + byte) by)
-  by-byte-set b depth byte hd hx e = record {
-    size = rw (length-set cache (256 * depth + byte) by) b.size;
-    right = λ d x kd kx.
-        set-right cache (256 * depth + byte) by (256 * d + x) _ (omega (arith, b.size))
-        (λ z.
-        let p : depth ≡ d = omega arith in
-        let q : byte ≡ x = omega arith in
-        e ∙ ap (λ d. byte_shift (words_in book) S d (some byte)) p ∙ ap (λ x. byte_shift (words_in book) S d (some x)) q)
-        (b.right d x kd kx);
+module _ {book image : List ℕ} {S : ℕ} {caches : Caches} (k : CachesRight book image S caches) (by : ℕ) where
+  -- The cache that learns the shift of a round that ended at its second byte, by both bytes.
+  pub by-pair-set : {x depth met : ℕ} {stop : Answer ℕ} (y i : ℕ) → y < 256 → x < 256 → i ≡ 256 * y + x
+      → depth ≡ 1 → met ≡ 0 → option_of stop ≡ some y → Sees book image x depth stop met by
+      → CachesRight book image S (record { bytes = caches.bytes; skip = caches.skip; pairs = set caches.pairs i by })
+  by-pair-set {x = x} y i hy hx p one bare c l = record {
+    by_byte = k.by_byte;
+    by-skip = k.by-skip;
+    by-pair = record {
+      size = length-set caches.pairs i by ∙ k.by-pair.size;
+      right = λ v u hv hu.
+          split (256 * v + u) i
+          (λ e _.
+          let s : v ≡ y = omega arith in
+          let q : u ≡ x = omega arith in
+          let there : get_or (set caches.pairs i by) (256 * y + x) 0 ≡ by =
+          ap (λ j. get_or (set caches.pairs i by) j 0) (sym p) ∙ get_or-set_same caches.pairs i by 0 (omega (arith, k.by-pair.size)) in
+          rw (s, q, there) (l.seen y one bare c))
+          (λ e. rw (get_or-set_other caches.pairs i (256 * v + u) by 0 e) (k.by-pair.right v u hv hu));
+    };
   }
 
 -- Where the shortest token, moved by one, lies right of the closing byte, it fits.
@@ -62,12 +73,5 @@ byte_one {book} {S} a d x h =
 
 -- Rule 5, d deep, with the node's entry.
 module _ (words : List (List ℕ)) (S d entry by : ℕ) (e : by ≡ entry) (closing : Option ℕ) where
-  pub shift-nothing : 1 ≤ entry → closing ≡ none → by ≡ max entry (byte_shift words S d closing)
-  shift-nothing h z = rw z (omega arith)
-
   pub shift-deep : 1 ≤ entry → (x : ℕ) → closing ≡ some x → byte_shift words S d (some x) ≡ 1 → by ≡ max entry (byte_shift words S d closing)
   shift-deep h x z one = rw (z, one) (omega arith)
-
-  pub shift-byte : (x : ℕ) → closing ≡ some x → (on : ℕ) → on ≡ byte_shift words S d (some x) → (r : ℕ) → r ≡ max by on
-      → r ≡ max entry (byte_shift words S d closing)
-  shift-byte x z on f r q = rw (z, q, e, f)

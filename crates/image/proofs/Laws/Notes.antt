@@ -5,7 +5,7 @@ use Rattle.std.proofs.lemmas.List.Edits.{sets, sets-eq}
 use Rattle.std.proofs.Math.Seq.{take-nil}
 use Rattle.rules.proofs.Laws.Tests.{decide}
 use Rattle.rules.specs.Lists.{over}
-use Rattle.image.specs.Walk.{note, notes}
+use Rattle.image.specs.Hits.{note, notes}
 
 pub note-in : (room i x : ℕ) (l : List ℕ) → i < room → set l i x ≡ note room i x l
 note-in room i x l h = sym (ap (λ t. elim t [ true ↦ set l i x | false ↦ l ]) (lt-ltb i room h))

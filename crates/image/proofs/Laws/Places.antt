@@ -7,7 +7,7 @@ use Rattle.rules.specs.Rules.{Tree, Stretch, Config, left_over, cut, kept, ended
 use Rattle.rules.specs.Stretches.{Lies, loose, Spans}
 use Rattle.rules.proofs.Laws.Image.{stretches-append, stretches-length, stretches-select, stretches-cut}
 use Rattle.rules.proofs.Laws.Limit.Span.{four-few, short}
-use Rattle.image.specs.Spans as image
+use Rattle.image.specs.declared.spans.Spans as image
 use Rattle.image.specs.Spans.{Places, places_of, in_use, renewed}
 
 module _ {E : Type 0} where

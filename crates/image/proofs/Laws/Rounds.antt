@@ -4,17 +4,22 @@ use native.Mathlib.Omega.{arith}
 use mathlib.Core.Path.{◌≡◌, refl, ap, sym, subst, ◌∙◌}
 use mathlib.Core.Bool.{false}
 use mathlib.Core.List.{List, [], ◌∷◌, ◌++◌, map, map-append}
-use lib.ListN.{length, take, length-map}
+use lib.ListN.{length, take, length-map, replicate}
 use Rattle.book.specs.Book.{max_image, max_body}
 use Rattle.rules.specs.Lists.{over}
 use Rattle.whole.specs.Image.{room, hits_of, fetches_of, spares_of, noted}
+use Rattle.tables.specs.Tables.{Tables}
+use Rattle.image.specs.declared.given.Sweep.{Sweep}
+use Rattle.image.specs.declared.hits.HitsMut.{HitsMut}
+use Rattle.image.specs.declared.caches.Caches.{Caches}
 use Rattle.image.specs.declared.runs.Runs.{Runs}
 use Rattle.image.specs.Spans.{in_use}
-use Rattle.image.specs.Runs.{Powers, Followed}
+use Rattle.image.specs.Runs.{Followed}
 use Rattle.image.specs.Rule5.{tokens_of}
-use Rattle.image.specs.Walk.{notes}
-use Rattle.image.specs.Sweeping.{Given, Standing, Stands, Known, Caches, Begun, Skimmable, on_at, Leads}
+use Rattle.image.specs.Hits.{notes}
+use Rattle.image.specs.Sweeping.{Given, Standing, Stands, Known, CachesRight, CachesIn, Begun, Skimmable, on_at, Leads}
 use Rattle.image.proofs.Laws.Notes.{notes-length, notes-append, notes-over}
+use Rattle.image.proofs.Laws.RoundsSweep.{no-shifts, no-powers}
 use Rattle.image.proofs.Laws.RoundByRound.{begins, all_found, all-counted, looks-small}
 use Rattle.image.proofs.Laws.TurnAttempt.{Goes}
 
@@ -40,34 +45,44 @@ module _ (part : ℕ × ℕ → ℕ) (r : ℕ) where
       p ∙ notes-over r (map part found) l₀ h ∙ ap (λ xs. over xs l₀) (take_part r found ∙ ap (λ f. map part (take r f)) e)
 
 -- At the start no run was met.
-pub followed-none : {label token first next image power upto numbers : List ℕ} {count : ℕ} {r : Runs} → Powers label token first next count 0 0 false power upto numbers
-    → r ≡ record { from = 0; till = 0; byte = 0; known = 0; ended = false } → Followed label token first next count image r power upto numbers
-followed-none {label} {token} {first} {next} {image} {power} {upto} {numbers} {count} p e =
-    subst (λ r. Followed label token first next count image r power upto numbers) (sym e)
-    (record { order = omega arith; equal = λ i h l. absurd (omega arith); byte = λ h. absurd (omega arith); powers = p })
+pub followed-none : {tables : Tables} (image : List ℕ) {count : ℕ} {r : Runs} → 0 < count
+    → r ≡ record { from = 0; till = 0; byte = 0; known = 0; ended = false; power = replicate 1025 0; upto = replicate 1025 0; numbers = replicate 1024 0 }
+    → Followed tables count image r
+followed-none {tables} image {count} h e =
+    subst (λ r. Followed tables count image r) (sym e)
+    (record { order = omega arith; equal = λ i h l. absurd (omega arith); byte = λ h. absurd (omega arith); powers = no-powers tables count h })
 
 -- These hits are found; the buffers hold as many as there is room for.
-pub record Rounding (book image : List ℕ) (shortest : ℕ) (ends₀ tokens₀ ends tokens bytes skip pairs : List ℕ) (at : Standing) : Type 0 where
+pub record Rounding (book image : List ℕ) (shortest : ℕ) (ends₀ tokens₀ ends tokens : List ℕ) (caches : Caches) (at : Standing) : Type 0 where
   pub found : List (ℕ × ℕ)
   pub stands : Stands book image at found
-  pub caches : Caches book image shortest bytes skip pairs
+  pub right : CachesRight book image shortest caches
   pub ends-hold : ends ≡ notes (room ends₀ tokens₀) 0 (map (λ h. h.0) found) ends₀
   pub tokens-hold : tokens ≡ notes (room ends₀ tokens₀) 0 (map (λ h. h.1) found) tokens₀
 
-pub rounding-begins : {book image label token first next shift : List ℕ} {count shortest : ℕ} {bytes skip pairs : List ℕ} {at : Standing} (ends tokens : List ℕ)
-    → Given book image label token first next shift count shortest → Caches book image shortest bytes skip pairs
+-- The same of a sweep, from its buffers as they were lent.
+abbrev pub RoundingIn : Sweep → HitsMut → HitsMut → Caches → Standing → Type 0
+RoundingIn s before hits c at =
+    Rounding s.book.now s.image.now s.shortest before.ends.now before.tokens.now hits.ends.now hits.tokens.now c at
+
+-- Caches that hold nothing are right.
+pub caches-none : (s : Sweep) {c : Caches} → c ≡ record { bytes = replicate 16384 0; skip = replicate 256 0; pairs = replicate 65536 0 } → CachesIn s c
+caches-none s {c} e = subst (CachesIn s) (sym e) (no-shifts s.book.now s.image.now s.shortest)
+
+pub rounding-begins : {book image : List ℕ} {tables : Tables} {count shortest : ℕ} {caches : Caches} {at : Standing} (ends tokens : List ℕ)
+    → Given book image tables count shortest → CachesRight book image shortest caches
     → at.boundary ≡ shortest → (in_use at.spans ≡ []) × (at.spans.used ≡ 0) → (at.fetched ≡ 0) × (at.spared ≡ 0) × (at.hits ≡ 0)
-    → Rounding book image shortest ends tokens ends tokens bytes skip pairs at
+    → Rounding book image shortest ends tokens ends tokens caches at
 rounding-begins {book} {image} {at = at} ends tokens g c e u z = record {
   found = [];
   stands = begins book image at g.read.read (e ∙ g.read.short) u.0 u.1 z.0 z.1 z.2;
-  caches = c;
+  right = c;
   ends-hold = refl;
   tokens-hold = refl;
 }
 
-module _ {book image : List ℕ} {shortest : ℕ} {ends₀ tokens₀ ends tokens bytes skip pairs : List ℕ} {at : Standing}
-    (l : Rounding book image shortest ends₀ tokens₀ ends tokens bytes skip pairs at) where
+module _ {book image : List ℕ} {shortest : ℕ} {ends₀ tokens₀ ends tokens : List ℕ} {caches : Caches} {at : Standing}
+    (l : Rounding book image shortest ends₀ tokens₀ ends tokens caches at) where
   pub ends-long : length ends ≡ length ends₀
   ends-long = ap length l.ends-hold ∙ notes-length (room ends₀ tokens₀) 0 (map (λ h. h.0) l.found) ends₀
 
@@ -81,8 +96,8 @@ module _ {book image : List ℕ} {shortest : ℕ} {ends₀ tokens₀ ends tokens
   rounding-small w = (omega (arith, l.stands.near), looks-small book image at l.found l.stands w)
 
   -- Rounds can be skimmed, and that finds nothing; a round can begin.
-  pub rounding-skimmable : {label token first next shift : List ℕ} {count : ℕ} → Given book image label token first next shift count shortest
-      → Skimmable image skip pairs shortest at.boundary at.spans.used
+  pub rounding-skimmable : {tables : Tables} {count : ℕ} → Given book image tables count shortest
+      → Skimmable image caches shortest at.boundary at.spans.used
   rounding-skimmable g = record {
     book = book;
     at = at;
@@ -90,18 +105,18 @@ module _ {book image : List ℕ} {shortest : ℕ} {ends₀ tokens₀ ends tokens
     place = refl;
     spans = refl;
     within = g.within;
-    right = l.caches.by-skip;
-    paired = l.caches.by-pair;
+    right = l.right.by-skip;
+    paired = l.right.by-pair;
     short = g.read.short;
   }
 
-  pub rounding-skims : {label token first next shift : List ℕ} {count : ℕ} → Given book image label token first next shift count shortest
-      → {b looks : ℕ} → Leads image skip pairs shortest at.boundary at.spans.used b looks
-      → Rounding book image shortest ends₀ tokens₀ ends tokens bytes skip pairs (on_at at b looks)
+  pub rounding-skims : {tables : Tables} {count : ℕ} → Given book image tables count shortest
+      → {b looks : ℕ} → Leads image caches shortest at.boundary at.spans.used b looks
+      → Rounding book image shortest ends₀ tokens₀ ends tokens caches (on_at at b looks)
   rounding-skims g leads = record {
     found = l.found;
-    stands = leads.stands book l.caches.by-skip l.caches.by-pair g.read.short at refl refl l.found l.stands;
-    caches = l.caches;
+    stands = leads.stands book l.right.by-skip l.right.by-pair g.read.short at refl refl l.found l.stands;
+    right = l.right;
     ends-hold = l.ends-hold;
     tokens-hold = l.tokens-hold;
   }
@@ -109,15 +124,15 @@ module _ {book image : List ℕ} {shortest : ℕ} {ends₀ tokens₀ ends tokens
   pub rounding-begun : at.boundary ≤ length image → Begun book image at.boundary at.hits
   rounding-begun h = record { at = at; known = known; place = refl; so_far = refl; inside = h }
 
-  pub rounding-again : {after : Standing} {ends' tokens' bytes' skip' pairs' : List ℕ}
-      → Goes book image at after ends ends' tokens tokens' → Caches book image shortest bytes' skip' pairs'
-      → Rounding book image shortest ends₀ tokens₀ ends' tokens' bytes' skip' pairs' after
+  pub rounding-again : {after : Standing} {ends' tokens' : List ℕ} {caches' : Caches}
+      → Goes book image at after ends ends' tokens tokens' → CachesRight book image shortest caches'
+      → Rounding book image shortest ends₀ tokens₀ ends' tokens' caches' after
   rounding-again {ends' = ends'} {tokens'} g c =
       let r : room ends tokens ≡ room ends₀ tokens₀ = omega (arith, ends-long, tokens-long) in
       record {
         found = l.found ++ g.more;
         stands = g.stands l.found l.stands;
-        caches = c;
+        right = c;
         ends-hold = part-on (λ h. h.0) (room ends₀ tokens₀) l.found g.more at.hits (room ends tokens) ends₀ ends ends'
             l.stands.counted r l.ends-hold g.noted.ends-hold;
         tokens-hold = part-on (λ h. h.1) (room ends₀ tokens₀) l.found g.more at.hits (room ends tokens) tokens₀ tokens tokens'

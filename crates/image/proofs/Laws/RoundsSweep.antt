@@ -6,8 +6,9 @@ use mathlib.Core.Bool.{false}
 use mathlib.Core.List.{List}
 use lib.ListN.{length, get_or, replicate, length-replicate}
 use Rattle.rules.proofs.Laws.Tests.{clash}
+use Rattle.tables.specs.Tables.{Tables}
 use Rattle.image.specs.Runs.{Powers}
-use Rattle.image.specs.Sweeping.{Caches}
+use Rattle.image.specs.Sweeping.{CachesRight}
 
 -- an array of zeros
 abbrev none : ℕ → List ℕ
@@ -22,7 +23,7 @@ none-long : (n : ℕ) → length (none n) ≡ n
 none-long n = length-replicate {A = ℕ} n 0
 
 pub no-shifts : (book image : List ℕ) (shortest : ℕ)
-    → Caches book image shortest (replicate 16384 0) (replicate 256 0) (replicate 65536 0)
+    → CachesRight book image shortest (record { bytes = replicate 16384 0; skip = replicate 256 0; pairs = replicate 65536 0 })
 no-shifts book image shortest = record {
   by_byte = record { size = none-long 16384; right = λ d x _ _ f. absurd (f (none-at 16384 (256 * d + x))) };
   by-skip = record { size = none-long 256; right = λ x _ f. absurd (f (none-at 256 x)) };
@@ -30,9 +31,9 @@ no-shifts book image shortest = record {
 }
 
 -- and no powers.
-pub no-powers : (label token first next : List ℕ) (count : ℕ) → 0 < count
-    → Powers label token first next count 0 0 false (replicate 1025 0) (replicate 1025 0) (replicate 1024 0)
-no-powers label token first next count h =
+pub no-powers : (tables : Tables) (count : ℕ) → 0 < count
+    → Powers tables count 0 0 false (replicate 1025 0) (replicate 1025 0) (replicate 1024 0)
+no-powers tables count h =
     let at : (k : ℕ) → get_or (none 1025) k 0 ≡ 0 = none-at 1025 in
     record {
       nodes = none-long 1025;

@@ -3,7 +3,7 @@ use Prim.Native.Nat.{ℕ, zero, suc, ◌+◌, ◌-◌, ◌≤◌, ◌<◌}
 use native.Mathlib.Omega.{arith}
 use mathlib.Core.Path.{◌≡◌, refl, ap, sym, subst, ◌∙◌}
 use mathlib.Core.Bool.{Bool, true, false}
-use mathlib.Core.List.{List, [], ◌∷◌}
+use mathlib.Core.List.{List, ◌∷◌}
 use borrow.Author.Tests.{ltb-true, ltb-false, eqb-true}
 use lib.Dec.{ltb, eqb}
 use lib.ListN.{length, get_or, set, length-set}
@@ -11,9 +11,9 @@ use lib.Seq.{get_or-set_same, get_or-set_other}
 use Rattle.rules.proofs.Laws.Tests.{split, decide, clash}
 use Rattle.book.specs.Book.{max_body}
 use Rattle.tables.specs.Walks.{child_by}
-use Rattle.trie.specs.Answers.{tree_only, child_of}
-use Rattle.trie.specs.declared.Child.{Child}
-use Rattle.trie.specs.declared.Child.TheVariants.{At, Absent}
+use Rattle.std.specs.Prelude.{Option, Some, None}
+use Rattle.rules.specs.Options.{option_of}
+use Rattle.tables.specs.Tables.{Tables}
 use Rattle.image.specs.declared.runs.Runs.{Runs}
 use Rattle.image.specs.Rounds.{meeting}
 use Rattle.image.specs.Walk.{Walkable, newest}
@@ -52,10 +52,10 @@ meeting-more : (m : List ℕ) (i : ℕ) → length m ≤ length (meeting m i)
 meeting-more m zero = omega arith
 meeting-more m (suc i) = omega arith
 
-module _ {label token first next : List ℕ} {count : ℕ} where
+module _ {tables : Tables} {count : ℕ} where
   -- Of a byte no power but the empty word is known.
   powers-none : {x known : ℕ} {ended : Bool} {power upto numbers : List ℕ} (y : ℕ)
-      → Powers label token first next count x known ended power upto numbers → Powers label token first next count y 0 false power upto numbers
+      → Powers tables count x known ended power upto numbers → Powers tables count y 0 false power upto numbers
   powers-none y p = record {
     nodes = p.nodes;
     counts = p.counts;
@@ -72,26 +72,26 @@ module _ {label token first next : List ℕ} {count : ℕ} where
 
   -- The powers have not ended.
   pub powers-going : {x known : ℕ} {ended : Bool} {power upto numbers : List ℕ} → ended ≡ false
-      → Powers label token first next count x known ended power upto numbers → Powers label token first next count x known false power upto numbers
-  powers-going {x} {known} {power = power} {upto} {numbers} e p = subst (λ t. Powers label token first next count x known t power upto numbers) e p
+      → Powers tables count x known ended power upto numbers → Powers tables count x known false power upto numbers
+  powers-going {x} {known} {power = power} {upto} {numbers} e p = subst (λ t. Powers tables count x known t power upto numbers) e p
 
   -- Those of the run's byte, or of another.
-  pub powers-switched : {power upto numbers : List ℕ} (x : ℕ) (runs on : Runs)
-      → on ≡ elim (eqb x runs.byte) [ true ↦ runs | false ↦ record { from = 0; till = 0; byte = x; known = 0; ended = false } ]
-      → Powers label token first next count runs.byte runs.known runs.ended power upto numbers
-      → Powers label token first next count x on.known on.ended power upto numbers
-  powers-switched {power} {upto} {numbers} x runs on e p =
-      subst (λ s. Powers label token first next count x s.known s.ended power upto numbers) (sym e)
-      (decide (λ s. Powers label token first next count x s.known s.ended power upto numbers) (eqb x runs.byte) runs _
+  pub powers-switched : (x : ℕ) (runs on : Runs)
+      → on ≡ elim (eqb x runs.byte) [ true ↦ runs | false ↦ record runs { from = 0; till = 0; byte = x; known = 0; ended = false } ]
+      → Powers tables count runs.byte runs.known runs.ended runs.power runs.upto runs.numbers
+      → Powers tables count x on.known on.ended on.power on.upto on.numbers
+  powers-switched x runs on e p =
+      subst (λ s. Powers tables count x s.known s.ended s.power s.upto s.numbers) (sym e)
+      (decide (λ s. Powers tables count x s.known s.ended s.power s.upto s.numbers) (eqb x runs.byte) runs _
       (λ t.
-      subst (λ y. Powers label token first next count y runs.known runs.ended power upto numbers) (sym (eqb-true x runs.byte t)) p)
+      subst (λ y. Powers tables count y runs.known runs.ended runs.power runs.upto runs.numbers) (sym (eqb-true x runs.byte t)) p)
       (λ t. powers-none x p))
 
   -- A run that was met, with its byte's powers.
-  pub run-followed : {power upto numbers : List ℕ} (image : List ℕ) (r : Runs) (from b : ℕ) → from < b → Equal image from b
+  pub run-followed : (image : List ℕ) (r : Runs) (from b : ℕ) → from < b → Equal image from b
       → (r.from ≡ from) × (r.till ≡ b) × (r.byte ≡ get_or image (b - 1) 0)
-      → Powers label token first next count r.byte r.known r.ended power upto numbers
-      → Followed label token first next count image r power upto numbers
+      → Powers tables count r.byte r.known r.ended r.power r.upto r.numbers
+      → Followed tables count image r
   run-followed image r from b h f e p = record {
     order = omega (arith, e.0, e.1);
     equal = rw (e.0, e.1) f;
@@ -100,10 +100,10 @@ module _ {label token first next : List ℕ} {count : ℕ} where
   }
 
   -- The child by the byte, at the last power known.
-  module _ {x known : ℕ} {power upto numbers : List ℕ} (p : Powers label token first next count x known false power upto numbers)
-      (k : Child) (found : child_of k ≡ child_by (tree_only [] label [] first next) count (get_or power known 0) x) where
+  module _ {x known : ℕ} {power upto numbers : List ℕ} (p : Powers tables count x known false power upto numbers)
+      (k : Option ℕ) (found : option_of k ≡ child_by tables count (get_or power known 0) x) where
     -- There is none: the powers end.
-    pub powers-end : k ≡ Absent → Powers label token first next count x known true power upto numbers
+    pub powers-end : k ≡ None → Powers tables count x known true power upto numbers
     powers-end e = record {
       nodes = p.nodes;
       counts = p.counts;
@@ -115,16 +115,16 @@ module _ {label token first next : List ℕ} {count : ℕ} where
       met = p.met;
       rising = p.rising;
       held = p.held;
-      last = λ _. child-in label token first next count (get_or power known 0) x k Absent found e;
+      last = λ _. child-in tables count (get_or power known 0) x k None found e;
     }
 
     -- There is one: it is the next power.
-    module _ (t : Walkable label token first next count) (v : ℕ) (e : k ≡ At v) where
+    module _ (t : Walkable tables count) (v : ℕ) (e : k ≡ Some v) where
       pub power-held : v < count
-      power-held = child-below label token first next count t (get_or power known 0) x v (p.held known (omega arith)) k found e
+      power-held = child-below tables count t (get_or power known 0) x v (p.held known (omega arith)) k found e
 
-      module _ (more : known < max_body) (r : ℕ) (numbers' : List ℕ) (long : r ≡ length (meeting (newest numbers (get_or upto known 0)) (get_or token v 0)))
-          (kept : newest numbers' r ≡ meeting (newest numbers (get_or upto known 0)) (get_or token v 0)) (same : length numbers' ≡ length numbers) where
+      module _ (more : known < max_body) (r : ℕ) (numbers' : List ℕ) (long : r ≡ length (meeting (newest numbers (get_or upto known 0)) (get_or tables.token v 0)))
+          (kept : newest numbers' r ≡ meeting (newest numbers (get_or upto known 0)) (get_or tables.token v 0)) (same : length numbers' ≡ length numbers) where
         power-same : (j : ℕ) → j ≤ known → get_or (set power (known + 1) v) j 0 ≡ get_or power j 0
         power-same j h = get_or-set_other power (known + 1) j v 0 (λ q. omega arith)
 
@@ -140,7 +140,7 @@ module _ {label token first next : List ℕ} {count : ℕ} where
         numbers-same : (j : ℕ) → j ≤ known → newest numbers' (get_or upto j 0) ≡ newest numbers (get_or upto j 0)
         numbers-same j h =
             newest-less numbers' numbers (get_or upto j 0) (get_or upto known 0) (p.rising j h).1
-            (kept_same numbers numbers' (get_or upto known 0) (get_or token v 0) r long kept)
+            (kept_same numbers numbers' (get_or upto known 0) (get_or tables.token v 0) r long kept)
 
         -- one token more is met, or none
         grown : (get_or upto known 0 ≤ r) × (r ≤ get_or upto known 0 + 1)
@@ -148,11 +148,11 @@ module _ {label token first next : List ℕ} {count : ℕ} where
           arith,
           long,
           newest-length numbers (get_or upto known 0),
-          meeting-more (newest numbers (get_or upto known 0)) (get_or token v 0),
-          meeting-few (newest numbers (get_or upto known 0)) (get_or token v 0),
+          meeting-more (newest numbers (get_or upto known 0)) (get_or tables.token v 0),
+          meeting-few (newest numbers (get_or upto known 0)) (get_or tables.token v 0),
         )
 
-        pub powers-more : Powers label token first next count x (known + 1) false (set power (known + 1) v) (set upto (known + 1) r) numbers'
+        pub powers-more : Powers tables count x (known + 1) false (set power (known + 1) v) (set upto (known + 1) r) numbers'
         powers-more = record {
           nodes = length-set power (known + 1) v ∙ p.nodes;
           counts = length-set upto (known + 1) r ∙ p.counts;
@@ -162,7 +162,7 @@ module _ {label token first next : List ℕ} {count : ℕ} where
           empty = upto-same 0 (omega arith) ∙ p.empty;
           child = λ j h.
               split j known
-              (λ q. rw (q, power-same known (omega arith), power-next) (child-in label token first next count (get_or power known 0) x k (At v) found e))
+              (λ q. rw (q, power-same known (omega arith), power-next) (child-in tables count (get_or power known 0) x k (Some v) found e))
               (λ q. rw (power-same j (omega arith), power-same (j + 1) (omega arith)) (p.child j (omega arith)));
           met = λ j h.
               split j known

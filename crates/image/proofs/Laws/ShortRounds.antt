@@ -7,7 +7,8 @@ use Rattle.rules.specs.Tokens.{of_tokens, shift_of, shortest_of}
 use Rattle.rules.specs.Stretches.{loose}
 use Rattle.book.proofs.Laws.Accepted.{accepted-fit, accepted-some}
 use Rattle.image.specs.Rounds.{Reached, reached, met, lowest}
-use Rattle.image.specs.Spans.{Spans, in_use, renewed}
+use Rattle.image.specs.declared.spans.Spans.{Spans}
+use Rattle.image.specs.Spans.{in_use, renewed}
 use Rattle.image.specs.Rule5.{tokens_of, BySkip}
 use Rattle.image.specs.Sweeping.{Standing, Stands, Seen, on_at}
 use Rattle.image.proofs.Laws.Roots.{down-local, first_ends}

@@ -9,24 +9,24 @@ use Rattle.rules.proofs.Laws.Tests.{split}
 use Rattle.rules.proofs.Laws.Exact.Shift.{shift-upto}
 use Rattle.book.specs.Book.{max_image, max_body}
 use Rattle.book.proofs.Laws.Accepted.{accepted-setting}
-use Rattle.image.specs.declared.skim.Skipped.{Skipped}
+use Rattle.image.specs.declared.caches.Caches.{Caches}
 use Rattle.image.specs.Rule5.{tokens_of, words_in, BySkip}
-use Rattle.image.specs.Sweeping.{Stands, Cached, Four, Paired, Skimmable, on_at, Leads, Skimmed}
+use Rattle.image.specs.Sweeping.{Stands, Cached, Four, Paired, Skimmable, on_at, Leads}
 use Rattle.image.proofs.Laws.RoundByRound.{looks-small, short-upto}
 use Rattle.image.proofs.Laws.ShortRounds.{skims, skims-two}
 
-pub cached-is : {image skip : List ℕ} {b m n : ℕ} → Cached image skip b m → m ≡ n → Cached image skip b n
-cached-is {image} {skip} {b} k e = subst (Cached image skip b) e k
+pub cached-is : {image : List ℕ} {caches : Caches} {b m n : ℕ} → Cached image caches b m → m ≡ n → Cached image caches b n
+cached-is {image} {caches} {b} k e = subst (Cached image caches b) e k
 
-module _ {image skip pairs : List ℕ} {S : ℕ} where
+module _ {image : List ℕ} {caches : Caches} {S : ℕ} where
   -- None leads nowhere,
-  pub lead-none : (b used : ℕ) → Leads image skip pairs S b used b 0
+  pub lead-none : (b used : ℕ) → Leads image caches S b used b 0
   lead-none b used = record {
     stands = λ book right paired short at here none found s. let z : at.fetched + 0 ≡ at.fetched = omega arith in rw (sym here, z) s;
   }
 
   -- some lead on from where others led,
-  pub lead-on : {b used c d m n : ℕ} → Leads image skip pairs S b used c m → Leads image skip pairs S c used d n → Leads image skip pairs S b used d (m + n)
+  pub lead-on : {b used c d m n : ℕ} → Leads image caches S b used c m → Leads image caches S c used d n → Leads image caches S b used d (m + n)
   lead-on {c = c} {m = m} {n} f g = record {
     stands = λ book right paired short at here none found s.
         let z : at.fetched + (m + n) ≡ at.fetched + m + n = omega arith in
@@ -34,51 +34,51 @@ module _ {image skip pairs : List ℕ} {S : ℕ} where
   }
 
   -- one leads to where the cache says,
-  pub lead-one : {b by : ℕ} → Cached image skip b by → (by ≡ 0 → ⊥) → Leads image skip pairs S b 0 (b + by) 1
+  pub lead-one : {b by : ℕ} → Cached image caches b by → (by ≡ 0 → ⊥) → Leads image caches S b 0 (b + by) 1
   lead-one {b} {by} c d = record {
     stands = λ book right paired short at here none found s.
-        let e : b + by ≡ at.boundary + get_or skip (get_or image (at.boundary - 1) 0) 0 = rw here (ap (λ n. b + n) c.shift) in
+        let e : b + by ≡ at.boundary + get_or caches.skip (get_or image (at.boundary - 1) 0) 0 = rw here (ap (λ n. b + n) c.shift) in
         rw e
-        (skims book image at found s (omega (arith, here, c.inside)) none skip (subst (λ n. BySkip book n skip) short right)
+        (skims book image at found s (omega (arith, here, c.inside)) none caches.skip (subst (λ n. BySkip book n caches.skip) short right)
         (get_or image (at.boundary - 1) 0) refl (rw here c.byte) (rw here (λ z. d (c.shift ∙ z))));
   }
 
   -- by its second byte too,
-  pub lead-two : {b by : ℕ} → Paired image pairs b by → (by ≡ 0 → ⊥) → Leads image skip pairs S b 0 (b + by) 2
+  pub lead-two : {b by : ℕ} → Paired image caches b by → (by ≡ 0 → ⊥) → Leads image caches S b 0 (b + by) 2
   lead-two {b} {by} c d = record {
     stands = λ book right paired short at here none found s.
         let y = get_or image (b - 2) 0 in
         let x = get_or image (b - 1) 0 in
         let seen = paired.right y x c.second c.first (λ z. d (c.shift ∙ z)) in
-        let e : b + by ≡ at.boundary + get_or pairs (256 * y + x) 0 = rw here (ap (λ n. b + n) c.shift) in
+        let e : b + by ≡ at.boundary + get_or caches.pairs (256 * y + x) 0 = rw here (ap (λ n. b + n) c.shift) in
         rw e
-        (skims-two book image at found s (omega (arith, here, c.inside)) none y x (get_or pairs (256 * y + x) 0) seen
+        (skims-two book image at found s (omega (arith, here, c.inside)) none y x (get_or caches.pairs (256 * y + x) 0) seen
         (omega (arith, here, c.before)) (rw here refl) (rw here refl));
   }
 
   -- and four by four times S.
-  pub lead-four : {b : ℕ} → 1 ≤ S → Four image skip b S → Leads image skip pairs S b 0 (b + 4 * S) 4
+  pub lead-four : {b : ℕ} → 1 ≤ S → Four image caches b S → Leads image caches S b 0 (b + 4 * S) 4
   lead-four {b} i f =
       let d : S ≡ 0 → ⊥ = λ z. absurd (omega arith) in
-      let two : Leads image skip pairs S (b + S) 0 (b + 2 * S) 1 = let z : b + 2 * S ≡ b + S + S = omega arith in rw z (lead-one f.two d) in
-      let three : Leads image skip pairs S (b + 2 * S) 0 (b + 3 * S) 1 = let z : b + 3 * S ≡ b + 2 * S + S = omega arith in rw z (lead-one f.three d) in
-      let four : Leads image skip pairs S (b + 3 * S) 0 (b + 4 * S) 1 = let z : b + 4 * S ≡ b + 3 * S + S = omega arith in rw z (lead-one f.four d) in
+      let two : Leads image caches S (b + S) 0 (b + 2 * S) 1 = let z : b + 2 * S ≡ b + S + S = omega arith in rw z (lead-one f.two d) in
+      let three : Leads image caches S (b + 2 * S) 0 (b + 3 * S) 1 = let z : b + 3 * S ≡ b + 2 * S + S = omega arith in rw z (lead-one f.three d) in
+      let four : Leads image caches S (b + 3 * S) 0 (b + 4 * S) 1 = let z : b + 4 * S ≡ b + 3 * S + S = omega arith in rw z (lead-one f.four d) in
       lead-on (lead-on (lead-on (lead-one f.one d) two) three) four
 
 -- The rounds from boundary b up to another were skimmed, with so many looks at the image.
-pub record Skimming (image skip pairs : List ℕ) (S b at looks : ℕ) : Type 0 where
-  pub leads : Leads image skip pairs S b 0 at looks
+pub record Skimming (image : List ℕ) (caches : Caches) (S b at looks : ℕ) : Type 0 where
+  pub leads : Leads image caches S b 0 at looks
   pub up : b ≤ at
   pub positive : 1 ≤ at
   pub near : at ≤ max_image + max_body
   pub few : looks ≤ 2 ^ 36
 
-module _ {image skip pairs : List ℕ} {S b : ℕ} (g : Skimmable image skip pairs S b 0) where
+module _ {image : List ℕ} {caches : Caches} {S b : ℕ} (g : Skimmable image caches S b 0) where
   -- where the sweep stands then
-  stands_on : {at looks : ℕ} → Leads image skip pairs S b 0 at looks → Stands g.book image (on_at g.at at looks) g.known.found
+  stands_on : {at looks : ℕ} → Leads image caches S b 0 at looks → Stands g.book image (on_at g.at at looks) g.known.found
   stands_on leads = leads.stands g.book g.right g.paired g.short g.at g.place g.spans g.known.found g.known.stands
 
-  pub skimming : {at looks : ℕ} → b ≤ at → Leads image skip pairs S b 0 at looks → Skimming image skip pairs S b at looks
+  pub skimming : {at looks : ℕ} → b ≤ at → Leads image caches S b 0 at looks → Skimming image caches S b at looks
   skimming {at} {looks} up leads =
       let s = stands_on leads in
       record {
@@ -89,14 +89,8 @@ module _ {image skip pairs : List ℕ} {S b : ℕ} (g : Skimmable image skip pai
         few = omega (arith, looks-small g.book image (on_at g.at at looks) g.known.found s g.within);
       }
 
-  pub skimming-begins : Skimming image skip pairs S b b 0
-  skimming-begins = skimming (omega arith) (lead-none b 0)
-
-  pub skimming-done : {r : Skipped} → Skimming image skip pairs S b r.boundary r.looks → Skimmed image skip pairs S b 0 r
-  skimming-done k = record { leads = k.leads; up = k.up }
-
   -- They can be skimmed from there,
-  pub skimmable-on : {at looks : ℕ} → Skimming image skip pairs S b at looks → Skimmable image skip pairs S at 0
+  pub skimmable-on : {at looks : ℕ} → Skimming image caches S b at looks → Skimmable image caches S at 0
   skimmable-on {at} {looks} k = record {
     book = g.book;
     at = on_at g.at at looks;
@@ -117,7 +111,7 @@ module _ {image skip pairs : List ℕ} {S b : ℕ} (g : Skimmable image skip pai
         omega (arith, g.short, short-upto g.book image s.read),
       )
 
-  pub cached-upto : (c by : ℕ) → Cached image skip c by → by ≤ S
+  pub cached-upto : (c by : ℕ) → Cached image caches c by → by ≤ S
   cached-upto c by k =
       let x = get_or image (c - 1) 0 in
       split by 0

@@ -8,14 +8,22 @@ use borrow.Author.Tests.{lt-ltb, le-ltb}
 use lib.ListN.{length, take, drop, length-append, length-take, length-drop, length-map}
 use Rattle.rules.specs.Words.{all_words}
 use Rattle.rules.specs.Tokens.{body_bytes}
-use Rattle.rules.proofs.Laws.Tests.{decide}
+use Rattle.rules.proofs.Laws.Tests.{decide, clash}
 use Rattle.book.specs.Book.{Verdict, Reading, accepted, refused, Totals, summary, read_book, max_image, too_long}
 use Rattle.book.proofs.Laws.Accepted.{Summed, accepted-fit, accepted-some}
 use Rattle.tables.specs.Tables.{Tables, nodes, built, Lent, written, too_short, shortest_table, Sizes, sizes_of, Building, build}
 use Rattle.tables.proofs.Laws.Made.{written-lent, answer_to, build-made}
 use Rattle.tables.proofs.Laws.Represents.{built-represents}
 use Rattle.whole.specs.Image.{Swept, room, hits_of, fetches_of, spares_of, counted, noted, sweep_image}
-use Rattle.image.specs.Results.{refusal_for}
+use Rattle.book.specs.Answers as reading
+use Rattle.trie.specs.Answers as trie
+use Rattle.trie.specs.declared.Refusal.{Refusal as Unbuilt}
+use Rattle.trie.specs.declared.Refusal.TheVariants.{Unread, TooShort}
+use Rattle.image.specs.declared.Found.{Found}
+use Rattle.image.specs.declared.Refusal.{Refusal}
+use Rattle.image.specs.Results.{swept_of, fetched_of, spared_of, unbuilt, refusal_for}
+use Rattle.std.specs.Prelude.{Result, Ok, Err}
+use Rattle.std.specs.Result.{IsErr, IsErrAnd}
 use Rattle.image.specs.Rule5.{tokens_in, tokens_of}
 use Rattle.image.specs.Sweeping.{Given}
 
@@ -127,8 +135,16 @@ module _ (book image : List ℕ) (t : Tables) (ends numbers : List ℕ) where
         (λ q e. same 7 (1 + body_bytes tokens) e ∙ to-untouched tokens q)
         (λ _ e. absurd (other _ _ e))
 
-    pub answer-refused : here ≡ build book t → there ≡ sweep_image book image t ends numbers
+    answer-refused : here ≡ build book t → there ≡ sweep_image book image t ends numbers
     answer-refused = by-reading (read_book book)
+
+  pub answer-unbuilt : (why : Unbuilt) (r : Result Found Refusal) (u : Tables) → IsErr r × IsErrAnd r (λ e. e ≡ unbuilt why)
+      → record { answer = refused (trie.refusal_of why).0 (trie.refusal_of why).1; tables = u } ≡ build book t
+      → record { answer = swept_of r; fetched = fetched_of r; spared = spared_of r; tables = u; ends = ends; tokens = numbers }
+      ≡ sweep_image book image t ends numbers
+  answer-unbuilt why (Ok found) u e q = absurd (clash false e.0 refl)
+  answer-unbuilt (Unread why) (Err r) u e q = rw e.1 (answer-refused (reading.refusal_of why).0 (reading.refusal_of why).1 u q)
+  answer-unbuilt (TooShort n) (Err r) u e q = rw e.1 (answer-refused 7 n u q)
 
 -- The tables are built.
 pub record Built (book : List ℕ) (t u : Tables) (sizes : Sizes) : Type 0 where
@@ -157,17 +173,16 @@ module _ {book : List ℕ} (image : List ℕ) {t u : Tables} {sizes : Sizes} (b 
   ts = tokens_of book
 
   -- what the sweep over the built tables asks for
-  pub built-given : Given book image u.label u.token u.first u.next u.shift sizes.nodes sizes.shortest
-  built-given =
+  pub built-given : (lent : Tables) → lent ≡ u → Given book image lent sizes.nodes sizes.shortest
+  built-given lent e =
       let fit = accepted-fit book ts b.read in
       let r = built-represents ts fit (accepted-some book ts b.read) u (subst (λ u. Lent u (built ts)) (sym b.filled) (written-lent (built ts) t)) in
       let n : sizes.nodes ≡ length (nodes (all_words ts)) = ap (λ s. s.nodes) b.sized in
-      record {
-        parent = u.parent;
+      rw e (record {
         read = record { read = b.read; short = ap (λ s. s.shortest) b.sized };
         stands = rw n r;
         within = small;
-      }
+      })
 
   module _ (ends numbers : List ℕ) where
     abbrev found : List (ℕ × ℕ)

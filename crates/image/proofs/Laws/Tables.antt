@@ -10,24 +10,22 @@ use Rattle.book.proofs.Laws.Accepted.{Fit}
 use Rattle.tables.specs.Tables.{Tables}
 use Rattle.tables.specs.Walks.{child_by, ending}
 use Rattle.tables.specs.Represents.{Stand, Represents}
-use Rattle.trie.specs.Answers.{tree_only}
-use Rattle.trie.proofs.Laws.Chain.{along-alike}
 use Rattle.image.specs.Rounds.{Reached, meeting, down, reached}
 use Rattle.image.specs.Walk.{tree_in, Walkable}
 use Rattle.image.proofs.Laws.Roots.{root-grows}
 
 module _ (tokens : List (List ℕ)) (S : ℕ) (t : Tables) (count : ℕ) (rep : Represents t count tokens) where
   abbrev here : Tree ℕ
-  here = tree_in t.label t.token t.first t.next count
+  here = tree_in t count
 
   abbrev there : Tree (List ℕ)
   there = of_tokens tokens S
 
   child-here : (v x : ℕ) → here.child v x ≡ child_by t count v x
-  child-here v x = along-alike (tree_only [] t.label t.token t.first t.next) t refl refl x count (get_or t.first v 0)
+  child-here v x = refl
 
   child-same : (v x : ℕ) → v < count → Stand t count (here.child v x) (there.child (ending t v) x)
-  child-same v x h = subst (λ o. Stand t count o (there.child (ending t v) x)) (sym (child-here v x)) (rep.child v x h)
+  child-same v x h = rep.child v x h
 
   -- What the code asks of the tables.
   module _ (fit : Fit tokens) where
@@ -39,7 +37,7 @@ module _ (tokens : List (List ℕ)) (S : ℕ) (t : Tables) (count : ℕ) (rep : 
     below-count w (some v) none s e = absurd s
     below-count w (some v) (some u) s e = let z : v ≡ w = cc in rw z at s.0
 
-    pub walkable : 1 ≤ length tokens → Walkable t.label t.token t.first t.next count
+    pub walkable : 1 ≤ length tokens → Walkable t count
     walkable some-token = record {
       some-node = rep.some-node;
       tokens = omega (arith, rep.held);

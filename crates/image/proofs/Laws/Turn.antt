@@ -7,56 +7,30 @@ use mathlib.Core.Bool.{true, ◌&&◌}
 use mathlib.Core.Option.{Option, some, none}
 use borrow.Author.Tests.{eqb-true, ltb-true}
 use lib.Dec.{eqb, ltb}
-use lib.ListN.{length, get_or, set, length-set}
-use lib.Seq.{get_or-set_same, get_or-set_other}
+use lib.ListN.{length, get_or}
 use Rattle.rules.specs.Lists.{any_of}
 use Rattle.rules.specs.Tokens.{fits, node_shift, byte_shift, of_tokens, shift_of, shortest_of}
 use Rattle.rules.specs.Stretches.{loose}
-use Rattle.rules.proofs.Laws.Tests.{split, and_l, and_r, least-ge}
-use Rattle.image.specs.declared.walk.Stop.{Stop}
-use Rattle.image.specs.declared.walk.Stop.TheVariants.{Byte, Nothing}
+use Rattle.rules.proofs.Laws.Tests.{and_l, and_r, least-ge}
+use Rattle.std.specs.Prelude.{Option as Answer, Some, None}
+use Rattle.rules.specs.Options.{option_of}
 use Rattle.image.specs.declared.walk.Arrival.{Arrival}
 use Rattle.image.specs.declared.turn.Outcome.{Outcome}
 use Rattle.image.specs.Rounds.{Reached, lowest}
 use Rattle.book.specs.Book.{max_image}
-use Rattle.image.specs.Spans.{Spans, spans_of, in_use, renewed, Fits}
-use Rattle.image.specs.Rule5.{tokens_of, words_in, Accepted, closing_of, BySkip}
-use Rattle.image.specs.Sweeping.{Standing, Known, lowest_of, Learns, end_at, shift_at, ByPair, Sees, Ended}
+use Rattle.image.specs.declared.spans.Spans.{Spans}
+use Rattle.image.specs.Spans.{in_use, renewed, Fits}
+use Rattle.image.specs.Rule5.{tokens_of, words_in, Accepted}
+use Rattle.image.specs.Sweeping.{Standing, Known, lowest_of, Learns, end_at, shift_at, Sees, Ended}
 use Rattle.image.proofs.Laws.Roots.{first-shut, down-closes}
 use Rattle.image.proofs.Laws.Places.{none-renewed, none-loose, loose-upto}
 use Rattle.image.proofs.Laws.RoundByRound.{depths, matches, raised, renewed-few, stands-fit, looks-small}
 
 -- The leftmost place.
-lowest-same : {E : Type 0} (b depth : ℕ) (stop : Stop) (r : Reached E) → depth ≡ r.depth → closing_of stop ≡ r.closing
+lowest-same : {E : Type 0} (b depth : ℕ) (stop : Answer ℕ) (r : Reached E) → depth ≡ r.depth → option_of stop ≡ r.closing
     → lowest_of b depth stop ≡ lowest b r
-lowest-same b depth Nothing r e c = cc
-lowest-same b depth (Byte x) r e c = cc
-
--- The cache that learns the shift of the byte that ended the round.
-pub by-skip-set : {book cache : List ℕ} {S depth by : ℕ} {stop : Stop} (x : ℕ) → x < 256 → depth ≡ 0 → closing_of stop ≡ some x
-    → Learns book S depth stop by → BySkip book S cache → BySkip book S (set cache x by)
-by-skip-set {cache = cache} {by = by} x h z c l b = record {
-  size = length-set cache x by ∙ b.size;
-  right = λ y hy.
-      split y x
-      (λ e _. rw e (l.none x z c, get_or-set_same cache x by 0 (omega (arith, b.size)) ∙ l.right x z c))
-      (λ e. rw (get_or-set_other cache x y by 0 e) (b.right y hy));
-}
-
--- And by both bytes.
-pub by-pair-set : {book image cache : List ℕ} {x depth by : ℕ} {stop : Stop} {met : ℕ} (y : ℕ) → y < 256 → x < 256
-    → depth ≡ 1 → met ≡ 0 → closing_of stop ≡ some y → Sees book image x depth stop met by → ByPair book image cache
-    → ByPair book image (set cache (256 * y + x) by)
-by-pair-set {book} {image} {cache} {x} {by = by} y hy hx one bare c l b = record {
-  size = length-set cache (256 * y + x) by ∙ b.size;
-  right = λ v u hv hu.
-      split (256 * v + u) (256 * y + x)
-      (λ e _.
-      let p : v ≡ y = omega arith in
-      let q : u ≡ x = omega arith in
-      rw (p, q, get_or-set_same cache (256 * y + x) by 0 (omega (arith, b.size))) (l.seen y one bare c))
-      (λ e. rw (get_or-set_other cache (256 * y + x) (256 * v + u) by 0 e) (b.right v u hv hu));
-}
+lowest-same b depth None r e c = cc
+lowest-same b depth (Some x) r e c = cc
 
 empty : (l : List ℕ) → length l ≡ 0 → l ≡ []
 empty [] e = refl
@@ -70,7 +44,7 @@ pub record Arrives (book image shift : List ℕ) (shortest : ℕ) (at : Standing
   pub held : arrival.node < length shift
   pub entry : get_or shift arrival.node 0 ≡ node_shift (words_in book) shortest (end_at book image at.boundary).node
   pub deep : arrival.depth ≡ (end_at book image at.boundary).depth
-  pub closing : closing_of arrival.stop ≡ (end_at book image at.boundary).closing
+  pub closing : option_of arrival.closing ≡ (end_at book image at.boundary).closing
   pub many : arrival.met ≡ length (end_at book image at.boundary).tokens
 
 module _ {book image shift : List ℕ} {S : ℕ} {at : Standing} {arrival : Arrival} (a : Arrives book image shift S at arrival) where
@@ -93,7 +67,7 @@ module _ {book image shift : List ℕ} {S : ℕ} {at : Standing} {arrival : Arri
   arrives-some = rw a.entry (least-ge (λ s. any_of (λ w. fits r.node w s) (words_in book)) 1 (S - 1))
 
   -- Its shift.
-  module _ (by : ℕ) (e : by ≡ max (get_or shift arrival.node 0) (byte_shift (words_in book) S d (closing_of arrival.stop))) where
+  module _ (by : ℕ) (e : by ≡ max (get_or shift arrival.node 0) (byte_shift (words_in book) S d (option_of arrival.closing))) where
     by-rule : by ≡ shift_of (words_in book) S r.node r.closing
     by-rule = rw (a.entry, long, a.closing) at e
 
@@ -103,14 +77,14 @@ module _ {book image shift : List ℕ} {S : ℕ} {at : Standing} {arrival : Arri
     pub by_near : by ≤ 1024
     by_near = rw by-is (raised book image at a.known.found a.known.stands a.place).1
 
-    pub learns : Learns book S d arrival.stop by
+    pub learns : Learns book S d arrival.closing by
     learns = record {
       none = λ x z c.
           first-shut (tokens_of book) (shortest_of (tokens_of book)) image b x (sym a.deep ∙ z) (sym a.closing ∙ c);
       right = λ x z c. rw (empty r.node (sym long ∙ z), sym a.closing ∙ c) at by-rule;
     }
 
-    pub sees : (x : ℕ) → x ≡ get_or image (b - 1) 0 → Sees book image x d arrival.stop arrival.met by
+    pub sees : (x : ℕ) → x ≡ get_or image (b - 1) 0 → Sees book image x d arrival.closing arrival.met by
     sees x is = record {
       seen = λ y one bare c.
           let shut = sym a.closing ∙ c in
@@ -129,9 +103,9 @@ module _ {book image shift : List ℕ} {S : ℕ} {at : Standing} {arrival : Arri
           };
     }
 
-    pub ended : (low hits : ℕ) → low ≡ lowest_of b d arrival.stop
+    pub ended : (low hits : ℕ) → low ≡ lowest_of b d arrival.closing
         → Ended book image b (record { depth = d; low = low; by = by; hits = hits })
-    ended low hits l = record { deep = a.deep; low = l ∙ lowest-same b d arrival.stop r a.deep a.closing; by = by-is }
+    ended low hits l = record { deep = a.deep; low = l ∙ lowest-same b d arrival.closing r a.deep a.closing; by = by-is }
 
 -- Rules 4 to 6 from one standing to the next.
 pub record Turned (book image : List ℕ) (at after : Standing) (hits : ℕ) : Type 0 where
@@ -143,10 +117,6 @@ pub record Turned (book image : List ℕ) (at after : Standing) (hits : ℕ) : T
   pub spared : let low = lowest at.boundary (end_at book image at.boundary) in
       low + loose at.boundary low (in_use at.spans) + after.spared ≡ at.boundary + at.spared
   pub counted : after.hits ≡ hits
-
-pub spans-as : {lefts rights lefts' rights' : List ℕ} {used used' : ℕ} → lefts ≡ lefts' → rights ≡ rights' → used ≡ used'
-    → spans_of lefts rights used ≡ spans_of lefts' rights' used'
-spans-as p q o = cc
 
 pub turned_as : {book image : List ℕ} {at : Standing} {b hits f g m n : ℕ} {s t : Spans} → s ≡ t → f ≡ g → m ≡ n
     → Turned book image at (record { boundary = b; spans = t; fetched = g; spared = n; hits = hits }) hits

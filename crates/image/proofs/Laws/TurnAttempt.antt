@@ -10,11 +10,12 @@ use Rattle.rules.specs.Tokens.{shortest_of}
 use Rattle.book.specs.Book.{max_body}
 use Rattle.book.proofs.Laws.Accepted.{accepted-fit, accepted-some}
 use Rattle.tables.specs.Tables.{Tables}
-use Rattle.trie.specs.Answers.{tables}
 use Rattle.image.specs.declared.walk.Arrival.{Arrival}
 use Rattle.image.specs.Rounds.{reached}
-use Rattle.image.specs.Rule5.{tokens_of, closing_of}
-use Rattle.image.specs.Walk.{tree_in, Walkable, newest, stop_of, arrival_of, Noted}
+use Rattle.rules.specs.Options.{option_of}
+use Rattle.image.specs.Rule5.{tokens_of}
+use Rattle.image.specs.Hits.{Noted}
+use Rattle.image.specs.Walk.{tree_in, Walkable, newest, stop_of, arrival_of}
 use Rattle.image.specs.Sweeping.{Given, Standing, Stands, Known, end_at, met_at, Begun}
 use Rattle.image.proofs.Laws.Tables.{walkable, Same, reached-same}
 use Rattle.image.proofs.Laws.RoundByRound.{hits-small, depths, turns}
@@ -34,29 +35,26 @@ module _ {book image : List ℕ} {b hits : ℕ} (s : Begun book image b hits) wh
   pub begun-known : Known book image begun_at
   begun-known = rw (sym s.place, sym s.so_far) s.known
 
-closing-stop : (o : Option ℕ) → closing_of (stop_of o) ≡ o
+closing-stop : (o : Option ℕ) → option_of (stop_of o) ≡ o
 closing-stop none = refl
 closing-stop (some x) = refl
 
-module _ {book image label token first next shift : List ℕ} {count shortest : ℕ} (g : Given book image label token first next shift count shortest) where
-  abbrev t : Tables
-  t = tables g.parent label token first next shift
-
+module _ {book image : List ℕ} {tables : Tables} {count shortest : ℕ} (g : Given book image tables count shortest) where
   abbrev S : ℕ
   S = shortest_of (tokens_of book)
 
   -- What the tables and the place are to a round.
-  pub tables-walk : Walkable label token first next count
+  pub tables-walk : Walkable tables count
   tables-walk =
       let ts = tokens_of book in
-      walkable ts S t count g.stands (accepted-fit book ts g.read.read) (accepted-some book ts g.read.read)
+      walkable ts S tables count g.stands (accepted-fit book ts g.read.read) (accepted-some book ts g.read.read)
 
   module _ {at : Standing} (k : Known book image at) (h : at.boundary ≤ length image) where
     abbrev b : ℕ
     b = at.boundary
 
     abbrev here : Tree ℕ
-    here = tree_in label token first next count
+    here = tree_in tables count
 
     pub round-place : (0 < b) × (b ≤ length image)
     round-place = (omega (arith, k.stands.positive), h)
@@ -67,17 +65,17 @@ module _ {book image label token first next shift : List ℕ} {count shortest : 
     -- There is room for the tokens on its way.
     pub round_room : (reached here image b).depth ≤ max_body
     round_room =
-        let s = reached-same (tokens_of book) S t count g.stands image b in
+        let s = reached-same (tokens_of book) S tables count g.stands image b in
         omega (arith, s.depth, (depths book image at k.found k.stands h).1)
 
     -- Where it ends is where a round of the tokens ends,
     module _ (arrival : Arrival) (e : arrival ≡ arrival_of (reached here image b)) where
-      same : Same (tokens_of book) S t count g.stands image b (reached here image b) (end_at book image b)
-      same = reached-same (tokens_of book) S t count g.stands image b
+      same : Same (tokens_of book) S tables count g.stands image b (reached here image b) (end_at book image b)
+      same = reached-same (tokens_of book) S tables count g.stands image b
 
-      pub round-arrives : Arrives book image shift shortest at arrival
+      pub round-arrives : Arrives book image tables.shift shortest at arrival
       round-arrives =
-          subst (Arrives book image shift shortest at) (sym e)
+          subst (Arrives book image tables.shift shortest at) (sym e)
           (record {
             read = g.read;
             known = k;

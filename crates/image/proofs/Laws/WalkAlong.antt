@@ -4,40 +4,52 @@ use native.Mathlib.Omega.{arith}
 use native.Mathlib.Numerals.{add-one}
 use mathlib.Core.Path.{◌≡◌, refl, ap, sym, ◌∙◌}
 use mathlib.Core.Bool.{true}
-use mathlib.Core.List.{List, [], ◌∷◌}
+use mathlib.Core.List.{List, ◌∷◌, ◌++◌}
 use mathlib.Core.Option.{some}
-use lib.ListN.{length, get_or, set}
-use lib.Seq.{get_or-set_same}
+use lib.ListN.{length, get_or, take, length-take, get_or-append}
+use Rattle.std.proofs.lemmas.List.{get_or-take}
 use Rattle.rules.specs.Rules.{Tree}
-use Rattle.tables.specs.Tables.{Tables}
 use Rattle.tables.specs.Walks.{along}
-use Rattle.trie.specs.Answers.{tree_only}
-use Rattle.image.specs.declared.walk.Stop.TheVariants.{Byte}
+use Rattle.tables.specs.Tables.{Tables}
+use Rattle.std.specs.Prelude.{Some}
 use Rattle.image.specs.declared.runs.Runs.{Runs}
 use Rattle.image.specs.Rounds.{down, reached}
 use Rattle.image.specs.Walk.{tree_in, Walkable, newest, Descending, Arrived}
 use Rattle.image.specs.Runs.{Powers, Followed}
 use Rattle.image.proofs.Laws.Walk.{goes_on, down-shut, down-on}
-use Rattle.image.proofs.Laws.WalkDescend.{newest-set, begins, arrives}
+use Rattle.image.proofs.Laws.WalkDescend.{begins, arrives}
 
--- A number more is copied.
-pub copies : (kept numbers : List ℕ) (i : ℕ) → i < length kept → newest kept i ≡ newest numbers i
-    → newest (set kept i (get_or numbers i 0)) (i + 1) ≡ newest numbers (i + 1)
-copies kept numbers i h e =
-    let x = get_or numbers i 0 in
-    rw add-one (ap (λ y. y ∷ newest (set kept i x) i) (get_or-set_same kept i x 0 h) ∙ ap (λ m. x ∷ m) (newest-set kept i x i (omega arith) ∙ e))
+-- The first n numbers are copied.
+taken : (numbers rest : List ℕ) (n : ℕ) → n ≤ length numbers → (i : ℕ) → i ≤ n → newest (take n numbers ++ rest) i ≡ newest numbers i
+taken numbers rest n h zero l = refl
+taken numbers rest n h (suc i) l =
+    ap (λ y. y ∷ newest (take n numbers ++ rest) i)
+    (get_or-append (take n numbers) rest 0 i (omega (arith, length-take n numbers)) ∙ get_or-take n numbers i 0 (omega arith))
+    ∙ ap (λ m. get_or numbers i 0 ∷ m) (taken numbers rest n h i (omega arith))
+
+pub copied : (front rest numbers : List ℕ) (n : ℕ) → front ≡ take n numbers → n ≤ length numbers → newest (front ++ rest) n ≡ newest numbers n
+copied front rest numbers n e h = rw e (taken numbers rest n h n (omega arith))
 
 -- A chain with a node for x is not empty.
 some_first : (t : Tables) (x fuel at w : ℕ) → along t x fuel at ≡ some w → at ≡ 0 → ⊥
 some_first t x zero at w h e = let z : ◌≡◌ {A = ℕ} 0 1 = cc in omega arith
 some_first t x (suc fuel) at w h e = let z : ◌≡◌ {A = ℕ} 0 1 = cc in omega arith
 
-module _ {label token first next : List ℕ} {count : ℕ} (t : Walkable label token first next count) (image : List ℕ) (b : ℕ)
-    {runs : Runs} {power upto numbers : List ℕ} (f : Followed label token first next count image runs power upto numbers) (till : runs.till ≡ b) where
+module _ {tables : Tables} {count : ℕ} (t : Walkable tables count) (image : List ℕ) (b : ℕ)
+    {runs : Runs} (f : Followed tables count image runs) (till : runs.till ≡ b) where
   abbrev tree : Tree ℕ
-  tree = tree_in label token first next count
+  tree = tree_in tables count
 
-  abbrev p : Powers label token first next count runs.byte runs.known runs.ended power upto numbers
+  abbrev power : List ℕ
+  power = runs.power
+
+  abbrev upto : List ℕ
+  upto = runs.upto
+
+  abbrev numbers : List ℕ
+  numbers = runs.numbers
+
+  abbrev p : Powers tables count runs.byte runs.known runs.ended power upto numbers
   p = f.powers
 
   -- the bytes of the run
@@ -50,7 +62,7 @@ module _ {label token first next : List ℕ} {count : ℕ} (t : Walkable label t
   to-power zero h g = let z : b - 0 ≡ b = omega arith in rw (p.root, p.empty, z) refl
   to-power (suc k) h g =
       let c = p.child k (omega arith) in
-      let on = goes_on (get_or first (get_or power k 0) 0) k b (λ e. some_first (tree_only [] label token first next) runs.byte count _ _ c e) (λ e. omega arith) in
+      let on = goes_on (get_or tables.first (get_or power k 0) 0) k b (λ e. some_first tables runs.byte count _ _ c e) (λ e. omega arith) in
       let step = to-power k (omega arith) (omega arith)
       ∙ down-on tree image b (b - k) (get_or power k 0) k (newest numbers (get_or upto k 0)) runs.byte on (bytes k (omega arith)) (get_or power (k + 1) 0) c in
       let z : b - k ≡ suc (b - suc k) = omega arith in
@@ -59,7 +71,7 @@ module _ {label token first next : List ℕ} {count : ℕ} (t : Walkable label t
   module _ (k : ℕ) (least : k ≡ min (b - runs.from) runs.known) where
     -- The way goes on from the power with the powers' tokens kept.
     pub along-begins : (kept : List ℕ) → newest kept (get_or upto k 0) ≡ newest numbers (get_or upto k 0)
-        → Descending label token first next image kept count b (get_or power k 0) k (get_or upto k 0)
+        → Descending tables image kept count b (get_or power k 0) k (get_or upto k 0)
     along-begins kept q =
         begins t image b (suc (b - k)) (get_or power k 0) k (get_or upto k 0) kept _ (p.held k (omega arith)) (omega arith)
         (p.rising k (omega arith)).0 refl q (sym (to-power k (omega arith) (omega arith)))
@@ -72,10 +84,10 @@ module _ {label token first next : List ℕ} {count : ℕ} (t : Walkable label t
 
     -- The powers end within the run: no child has its byte.
     pub along-shut : (kept : List ℕ) → newest kept (get_or upto k 0) ≡ newest numbers (get_or upto k 0)
-        → runs.ended ≡ true → k < b - runs.from → (get_or first (get_or power k 0) 0 ≡ 0 → ⊥)
-        → Arrived label token first next count image b kept (record { node = get_or power k 0; depth = k; stop = Byte runs.byte; met = get_or upto k 0 })
+        → runs.ended ≡ true → k < b - runs.from → (get_or tables.first (get_or power k 0) 0 ≡ 0 → ⊥)
+        → Arrived tables count image b kept (record { node = get_or power k 0; depth = k; closing = Some runs.byte; met = get_or upto k 0 })
     along-shut kept q e h g =
         let z : runs.known ≡ k = omega arith in
         arrives t image b (along-begins kept q) (some runs.byte)
         (down-shut tree image b (b - k) (get_or power k 0) k (newest kept (get_or upto k 0)) runs.byte
-        (goes_on (get_or first (get_or power k 0) 0) k b g (λ e. omega arith)) (bytes k h) (rw z at (p.last e)))
+        (goes_on (get_or tables.first (get_or power k 0) 0) k b g (λ e. omega arith)) (bytes k h) (rw z at (p.last e)))

@@ -5,7 +5,8 @@ use mathlib.Core.Path.{◌≡◌, refl, ap, subst, ◌∙◌}
 use mathlib.Core.List.{List, ◌∷◌, map}
 use lib.ListN.{length, get_or}
 use Rattle.whole.specs.Image.{room}
-use Rattle.image.specs.Walk.{newest, note, notes, Noted}
+use Rattle.image.specs.Hits.{note, notes, Noted}
+use Rattle.image.specs.Walk.{newest}
 use Rattle.image.proofs.Laws.Notes.{note-length}
 
 -- To put the hits left from place n on is to put those found from place `hits` on.

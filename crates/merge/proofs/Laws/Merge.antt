@@ -1,4 +1,4 @@
--- What `merge` answers, by what reading the two books answered.
+-- What `merge` answers where both books are read.
 use Prim.Native.Nat.{ℕ}
 use mathlib.Core.Path.{◌≡◌, ap, ◌∙◌}
 use mathlib.Core.Bool.{false}
@@ -6,13 +6,13 @@ use mathlib.Core.List.{List}
 use borrow.Author.Tests.{le-ltb}
 use lib.ListN.{length}
 use Rattle.rules.specs.Tokens.{body_bytes}
-use Rattle.book.specs.Book.{refused, max_tokens, max_bodies, read_book, Totals as Sums, summary, bodies_in}
+use Rattle.book.specs.Book.{max_tokens, max_bodies, Totals as Sums, bodies_in}
 use Rattle.book.specs.Answers.{totalled}
 use Rattle.book.specs.declared.Totals.{Totals}
-use Rattle.book.proofs.Laws.Accepted.{Summed, refused_as, accepted-fit}
+use Rattle.book.proofs.Laws.Accepted.{Summed, accepted-fit}
 use Rattle.book.proofs.Laws.Bodies.{accepted-bodies}
 use Rattle.book.proofs.Laws.Bytes.{accepted-bytes}
-use Rattle.merge.specs.Merge.{too_large, first_bad, second_bad, Merging, join, merge}
+use Rattle.merge.specs.Merge.{too_large, Merging, join, merge}
 use Rattle.merge.specs.Steps.{Books}
 
 -- The bodies of an accepted book are its tokens, and within the limits.
@@ -36,17 +36,7 @@ books {first} totals s u = record {
 }
 
 module _ (first second out : List ℕ) where
-  pub first-refused : (k v : ℕ) → refused k v ≡ summary (read_book first) → record { answer = first_bad k v; out = out } ≡ merge first second out
-  first-refused k v e = cc (refused_as (read_book first) k v e)
-
   module _ (totals : Sums) (s : Summed first totals) where
-    pub second-refused : (k v : ℕ) → refused k v ≡ summary (read_book second) → record { answer = second_bad k; out = out } ≡ merge first second out
-    second-refused k v e = cc (s.read, refused_as (read_book second) k v e)
-
-    -- the number as the code has it
-    pub second-told : (k v n : ℕ) → refused k v ≡ summary (read_book second) → n ≡ k → record { answer = second_bad n; out = out } ≡ merge first second out
-    second-told k v n e q = rw q (second-refused k v e)
-
     pub joined : (others : Sums) → Summed second others → (m : Merging) → m ≡ join (bodies_in first) (bodies_in second) out
         → m ≡ merge first second out
     joined others u m e = rw (bodies-are s, bodies-are u) at e ∙ cc (s.read, u.read)

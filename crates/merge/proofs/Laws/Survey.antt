@@ -4,6 +4,7 @@ use native.Mathlib.Omega.{arith}
 use mathlib.Core.Path.{◌≡◌, ap, sym, ◌∙◌}
 use mathlib.Core.Bool.{Bool, true, false, ◌||◌, not}
 use mathlib.Core.List.{List, [], ◌∷◌, ◌++◌, append-nil}
+use Rattle.std.specs.Prelude.{Ok, Err}
 use borrow.Author.Tests.{lt-ltb, le-ltb}
 use lib.Dec.{ltb}
 use lib.ListN.{length, get_or, take, drop, set, length-append, length-set}
@@ -11,7 +12,7 @@ use lib.Seq.{take_all, get_or-set_same, get_or-set_other}
 use Rattle.rules.specs.Lists.{any_of}
 use Rattle.rules.specs.Words.{words_of, is_word, all_words}
 use Rattle.rules.specs.Tokens.{total, body_bytes}
-use Rattle.rules.proofs.Laws.Tests.{clash, below_suc, least-is}
+use Rattle.rules.proofs.Laws.Tests.{below_suc, least-is}
 use Rattle.rules.proofs.Laws.Words.{total-append, bytes-snoc, words-bytes, total-bytes}
 use Rattle.book.specs.Book.{max_tokens, max_bodies, whole_at, record_place, bodies_in}
 use Rattle.book.specs.Bytes.{book_of}
@@ -23,7 +24,7 @@ use Rattle.merge.specs.Steps.{Books, Surveyed}
 use Rattle.merge.proofs.Laws.Walk.{Walk, walk_begins, walk_ends, walk-some, walk-body, walk-size, walk-next}
 use Rattle.merge.proofs.Laws.Valid.{within}
 use Rattle.merge.proofs.Laws.More.{merged-more}
-use Rattle.merge.specs.declared.survey.Fit.TheVariants.{Over, Needs}
+use Rattle.merge.specs.declared.Refusal.TheVariants.{OverLimits}
 
 -- each token's words are one part of all body bytes
 one_of : (tokens : List (List ℕ)) (i : ℕ) → i < length tokens → total (words_of (get_or tokens i [])) ≤ body_bytes tokens
@@ -89,13 +90,13 @@ module _ {first second : List ℕ} {marks : List Bool} {tokens bodies size at i 
       (λ j l k. p.fits (j + 1) (omega arith)) (λ h. g (omega arith))
 
   -- There is no record more.
-  pub ends : (n : ℕ) → n ≡ whole_at second at → n ≡ 0 → Surveyed ts os marks (Needs size)
+  pub ends : (n : ℕ) → n ≡ whole_at second at → n ≡ 0 → Surveyed ts os (Ok (record { marks = marks; length = size }))
   ends n e z =
       let all : i ≡ length os = walk_ends p.walk (sym e ∙ z) in
       let whole : take i os ≡ os = take_all i os (omega arith) in
       let no : over_limits ts os ≡ false =
       le-ltb (fitting ts os) (length os) (omega (arith, first-over (λ h. absurd (omega arith)))) in
-      record { fits = cc (no, p.sums.long); tells = λ _ j h. p.told j (omega arith) }
+      record { fits = cc (no, p.sums.long); tells = λ m q. let z : m.marks ≡ marks = cc in rw z (λ j h. p.told j (omega arith)) }
 
   -- what the tokens come to with the next one
   abbrev pub Next : ℕ → ℕ → ℕ → Type 0
@@ -146,11 +147,11 @@ module _ {first second : List ℕ} {marks : List Bool} {tokens bodies size at i 
       judges = o ∙ cc (s.count, s.bytes)
 
       -- With it the merged book is too large.
-      pub stops : b ≡ true → Surveyed ts os marks (Over at)
+      pub stops : b ≡ true → Surveyed ts os (Err (OverLimits at))
       stops z =
           let fit : fitting ts os ≡ i = first-over (λ _. sym judges ∙ z) in
           let yes : over_limits ts os ≡ true = lt-ltb (fitting ts os) (length os) (omega (arith, some)) in
-          record { fits = cc (yes, p.walk.place ∙ ap (record_place os) (sym fit)); tells = λ no. absurd (clash _ yes no) }
+          record { fits = cc (yes, p.walk.place ∙ ap (record_place os) (sym fit)); tells = λ m q. cc q }
 
       pub again : b ≡ false → (x : Bool) → x ≡ lacks ts t → Passed first second (set marks i x) c m l (at + 1 + n) (i + 1)
       again z x q = record {

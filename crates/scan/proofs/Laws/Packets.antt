@@ -11,6 +11,7 @@ use lib.Seq.{drop-cons}
 use Rattle.rules.specs.Rules.{place}
 use Rattle.tables.specs.Tables.{Tables}
 use Rattle.scan.specs.declared.Scan.{Scan}
+use Rattle.std.specs.Prelude.{Ok}
 use Rattle.scan.specs.declared.Answer.TheVariants.{Fetch}
 use Rattle.scan.specs.declared.Stepped.{Stepped as Result}
 use Rattle.scan.specs.State.{config_of}
@@ -36,7 +37,7 @@ below-fetch last over e = e
 below-fetch last (refused k v) e = e
 
 module _ (t : Tables) (s : Scan) (xs : List ℕ) where
-  pub feeding-begins : judged t s true ≡ none → Feeding t s xs (s.boundary - s.depth) (record { state = s; answer = Fetch (s.boundary - s.depth - 1) }) 0
+  pub feeding-begins : judged t s true ≡ none → Feeding t s xs (s.boundary - s.depth) (record { state = s; answer = Ok (Fetch (s.boundary - s.depth - 1)) }) 0
   feeding-begins e =
       let inside = due-inside t s e in
       let here : s.boundary - s.depth ≡ suc (place (config_of s)) = omega arith in

@@ -1,4 +1,4 @@
--- When the rules fetch a byte: what they ask of a stretch is only whether it has the place, and of the tables the first children.
+-- When the rules fetch a byte: what they ask of a stretch is only whether it has the place.
 use Prim.Native.Nat.{ℕ, ◌-◌}
 use mathlib.Core.Path.{◌≡◌, refl}
 use mathlib.Core.Bool.{Bool, true, false, ◌&&◌, ◌||◌, not}
@@ -9,7 +9,6 @@ use lib.ListN.{get_or}
 use Rattle.rules.specs.Lists.{any_of}
 use Rattle.rules.specs.Rules.{Tree, Stretch, Config, finished, goes, place, recall, end_round, look, next}
 use Rattle.tables.specs.Tables.{Tables}
-use Rattle.trie.specs.Answers.{tree_only}
 use Rattle.scan.specs.declared.Scan.{Scan}
 use Rattle.scan.specs.State.{used, config_of, tree_of, wants_byte, due_ok}
 use Rattle.scan.specs.Memory.{covers}
@@ -43,14 +42,9 @@ module _ {E : Type 0} (tree : Tree E) (c : Config E) where
   wants_is n =
       told (ltb n c.boundary) (tree.leaf c.node || eqb c.depth c.boundary) _ (recall-is (place c) c.stretches)
 
-pub due-same : (t : Tables) (s : Scan) → due_ok (tree_only [] [] [] t.first []) s ≡ due_ok t s
-due-same t s =
-    let u = tree_only [] [] [] t.first [] in
-    cc (wants_is (tree_of u s) (config_of s) s.image, wants_is (tree_of t s) (config_of s) s.image)
-
 -- A byte is due: the answer, from the tests.
-pub due-tests : (first : List ℕ) (s : Scan) → s.due ≡ true → {a b d r : Bool}
-    → ltb s.image s.boundary ≡ a → eqb (get_or first s.node 0) 0 ≡ b → eqb s.depth s.boundary ≡ d
+pub due-tests : (t : Tables) (s : Scan) → s.due ≡ true → {a b d r : Bool}
+    → ltb s.image s.boundary ≡ a → eqb (get_or t.first s.node 0) 0 ≡ b → eqb s.depth s.boundary ≡ d
     → any_of (covers (s.boundary - 1 - s.depth)) (used s.stretches) ≡ r
-    → due_ok (tree_only [] [] [] first []) s ≡ (not a && not (b || d) && not r)
-due-tests first s due ea eb ed er = cc (wants_is (tree_of (tree_only [] [] [] first []) s) (config_of s) s.image)
+    → due_ok t s ≡ (not a && not (b || d) && not r)
+due-tests t s due ea eb ed er = cc (wants_is (tree_of t s) (config_of s) s.image)

@@ -98,3 +98,13 @@ module _ (t : Tables) (s : Scan) where
         → over ≡ a → leb from slot.left ≡ b → stretch_ok t s (stretch_of slot) ≡ c
         → (not a && b && c) ≡ false → false ≡ stretches_ok t s
     stand-fails u ea eb ec e = cc (walk-next w h) ∙ stretches-is w.long
+
+    -- The walk goes on behind a slot in use, and behind one that is not.
+    module _ (over' : Bool) (eo : over' ≡ over) (from' : ℕ) where
+      pub stand-goes : in_use slot ≡ true → over ≡ false → leb from slot.left ≡ true → stretch_ok t s (stretch_of slot) ≡ true → from' ≡ slot.right
+          → Walked (stands t s over' from') (stands t s false 0) s.stretches (i + 1)
+      stand-goes u o a b e = rw (eo, e) (record { long = w.long; upto = omega arith; rest = cc (walk-next w h) })
+
+    pub stand-passes : in_use slot ≡ false → (over' : Bool) → over' ≡ true → (from' : ℕ) → from' ≡ from
+        → Walked (stands t s over' from') (stands t s false 0) s.stretches (i + 1)
+    stand-passes u over' eo from' e = rw (eo, e) (record { long = w.long; upto = omega arith; rest = cc (walk-next w h) })

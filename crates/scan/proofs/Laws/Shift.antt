@@ -1,37 +1,22 @@
 -- The loop over the nodes that lowers the least byte shift.
-use Prim.Native.Nat.{ℕ, zero, suc, ◌+◌, ◌-◌, ◌≤◌, ◌<◌, min, max}
+use Prim.Native.Nat.{ℕ, zero, suc, ◌+◌, ◌-◌, ◌≤◌, min, max}
 use native.Mathlib.Numerals.{add-one}
 use native.Mathlib.Omega.{arith}
 use mathlib.Core.Path.{◌≡◌, refl, ap, sym, ◌∙◌}
 use mathlib.Core.Bool.{Bool}
-use mathlib.Core.List.{List, [], ◌∷◌}
+use mathlib.Core.List.{List, ◌∷◌}
 use mathlib.Core.Logic.{◌⊎◌, ⊎_elim}
 use mathlib.Core.Option.{Option, some}
 use lib.Bits.{bit_or, or_add_and, and_le_l, and_le_r}
-use lib.ListN.{length, get_or, take, drop, length-append, length-drop}
-use lib.Seq.{take_at}
-use Rattle.rules.specs.Lists.{least, over}
+use lib.ListN.{get_or}
+use Rattle.rules.specs.Lists.{least}
 use Rattle.rules.proofs.Laws.Tests.{split, least-upto}
 use Rattle.rules.specs.Tokens.{byte_shift}
 use Rattle.agree.specs.Tests.{byte_test, least_of}
 use Rattle.agree.proofs.Laws.Least.{least-none, least-bounds, least-word}
 use Rattle.tables.specs.Tables.{Tables}
 use Rattle.tables.specs.Walks.{ending, depth, words, shift_from}
-use Rattle.trie.specs.Answers.{tables, tree_only}
-use Rattle.scan.specs.Ways.{paths}
 use Rattle.scan.specs.Shifts.{Bare}
-use Rattle.scan.proofs.Laws.Ways.{depth-alike, ending-alike, words-alike}
-
--- A buffer that a word was written into.
-module _ (u before : List ℕ) {after : List ℕ} {n : ℕ} (is : after ≡ over u before) (long : n ≡ length u) where
-  pub written-size : length before ≡ 1024 → length u ≤ 1024 → length after ≡ 1024
-  written-size size short = rw is (rw (length-append, length-drop) (omega arith))
-
-  pub written-word : take n after ≡ u
-  written-word = rw is (take_at u (drop (length u) before) n (sym long))
-
-  pub written-length : n ≡ length (take n after)
-  written-length = long ∙ ap length (sym written-word)
 
 -- Nodes without a token.
 pub bare-none : (token : List ℕ) (v : ℕ) → Bare token v v
@@ -41,17 +26,6 @@ pub bare-more : {token : List ℕ} {v w : ℕ} → Bare token v w → get_or tok
 bare-more {token} {v} {w} b e = record {
   order = omega (arith, b.order);
   none_here = λ n h l. split n w (λ q. ap (λ m. get_or token m 0) q ∙ e) (λ q. b.none_here n h (omega arith));
-}
-
-before : {P : Type 0} (a b : ℕ) → (a < b → P) → (b ≤ a → P) → P
-before a zero f g = g (omega arith)
-before zero (suc b) f g = f (omega arith)
-before (suc a) (suc b) f g = before a b (λ h. f (omega arith)) (λ h. g (omega arith))
-
-pub bare-joins : {token : List ℕ} {u v w : ℕ} → Bare token u v → Bare token v w → Bare token u w
-bare-joins {token} {u} {v} {w} a b = record {
-  order = omega (arith, a.order, b.order);
-  none_here = λ n h l. before n v (λ k. a.none_here n h k) (λ k. b.none_here n k l);
 }
 
 or-none : (a b : ℕ) → bit_or a b ≡ 0 → (a ≡ 0) × (b ≡ 0)
@@ -89,9 +63,8 @@ least_more p t v S h d = go (get_or t.token v 0) d
     go zero d = absurd (d refl)
     go (suc i) d = least-word p (words t v) S h (ending t v)
 
--- The least byte shift of the words among the nodes below v; `word` is the buffer of the last one.
-pub record Lowered (t : Tables) (d x S : ℕ) (word : List ℕ) (best v : ℕ) : Type 0 where
-  pub size : length word ≡ 1024
+-- The least byte shift of the words among the nodes below v.
+pub record Lowered (t : Tables) (d x S best v : ℕ) : Type 0 where
   pub least : best ≡ least_of (byte_test d x) (words t v) S
 
 module _ (t : Tables) (d x : ℕ) {S : ℕ} (near : 1 ≤ S) where
@@ -109,13 +82,12 @@ module _ (t : Tables) (d x : ℕ) {S : ℕ} (near : 1 ≤ S) where
           let p = byte_test d x in
           omega (arith, l, least-word p (words t w) S near (ending t w), least-upto (p (ending t w)) 1 (least_at w - 1), least-bounds p (words t w) S near)
 
-  pub lowered-begins : (word : List ℕ) → length word ≡ 1024 → Lowered t d x S word S 0
-  lowered-begins word h = record { size = h; least = sym (least-none (byte_test d x) S near) }
+  pub lowered-begins : Lowered t d x S S 0
+  lowered-begins = record { least = sym (least-none (byte_test d x) S near) }
 
-  module _ {word : List ℕ} {best v : ℕ} (l : Lowered t d x S word best v) where
-    pub lowered-bare : (w : ℕ) → Bare t.token v w → Lowered t d x S word best w
-    lowered-bare w b =
-        record { size = l.size; least = l.least ∙ ap (λ ws. least_of (byte_test d x) ws S) (sym (bare-words t v w b)) }
+  module _ {best v : ℕ} (l : Lowered t d x S best v) where
+    pub lowered-bare : (w : ℕ) → Bare t.token v w → Lowered t d x S best w
+    lowered-bare w b = record { least = l.least ∙ ap (λ ws. least_of (byte_test d x) ws S) (sym (bare-words t v w b)) }
 
     -- All words are searched, or those that are left cannot count.
     pub lowered-done : (count entry : ℕ) → v ≤ count → (count ≤ v) ⊎ (best ≤ entry) → max entry best ≡ max entry (least_at count)
@@ -123,29 +95,20 @@ module _ (t : Tables) (d x : ℕ) {S : ℕ} (near : 1 ≤ S) where
         ⊎_elim (λ k. let e : v ≡ count = omega arith in ap (max entry) (l.least ∙ ap least_at e))
         (λ k. omega (arith, l.least, least-falls v count h))
 
-    pub lowered-again : (get_or t.token v 0 ≡ 0 → ⊥) → (after : List ℕ) (r : ℕ) → length after ≡ 1024
-        → r ≡ least (byte_test d x (ending (paths t.parent t.label) v)) 1 (best - 1) → Lowered t d x S after r (v + 1)
-    lowered-again marked after r h e =
+    pub lowered-again : (get_or t.token v 0 ≡ 0 → ⊥) → (r : ℕ) → r ≡ least (byte_test d x (ending t v)) 1 (best - 1) → Lowered t d x S r (v + 1)
+    lowered-again marked r e =
         rw (add-one v) (record {
-          size = h;
-          least = e ∙ ap (λ w. least (byte_test d x w) 1 (best - 1)) (ending-alike (paths t.parent t.label) t refl refl v)
-              ∙ ap (λ b. least (byte_test d x (ending t v)) 1 (b - 1)) l.least ∙ least_more (byte_test d x) t v S near marked;
+          least = e ∙ ap (λ b. least (byte_test d x (ending t v)) 1 (b - 1)) l.least ∙ least_more (byte_test d x) t v S near marked;
         })
 
 -- Rule 5: the greater of the entry and the byte shift, cut at S.
-module _ (parent label token shift : List ℕ) (count S node : ℕ) where
-  abbrev whole : Tables
-  whole = tables parent label token [] [] shift
-
+module _ (t : Tables) (count S node : ℕ) where
   abbrev byte_from : Option ℕ → ℕ
-  byte_from o = byte_shift (words whole count) S (depth whole node) o
+  byte_from o = byte_shift (words t count) S (depth t node) o
 
-  pub byte-is : (d x : ℕ) → d ≡ depth (paths parent []) node
-      → least_of (byte_test d x) (words (tree_only parent label token [] []) count) S ≡ byte_from (some x)
-  byte-is d x e =
-      ap (λ ws. least_of (byte_test d x) ws S) (words-alike (tree_only parent label token [] []) whole refl refl refl count)
-      ∙ ap (λ d. least_of (byte_test d x) (words whole count) S) (e ∙ depth-alike (paths parent []) whole refl node)
+  pub byte-is : (d x : ℕ) → d ≡ depth t node → least_of (byte_test d x) (words t count) S ≡ byte_from (some x)
+  byte-is d x e = ap (λ d. least_of (byte_test d x) (words t count) S) e
 
-  pub shift_is : (o closing : Option ℕ) → closing ≡ o → {entry byte most r : ℕ} → entry ≡ get_or shift node 0 → byte ≡ byte_from o
-      → most ≡ max entry byte → r ≡ min S most → r ≡ shift_from whole count S node closing
-  shift_is o closing z e b m r = r ∙ ap (min S) (m ∙ cc)
+  pub shift_is : (closing o : Option ℕ) → closing ≡ o → {entry by r : ℕ} → entry ≡ get_or t.shift node 0 → by ≡ max entry (byte_from o)
+      → r ≡ min S by → r ≡ shift_from t count S node closing
+  shift_is closing o z e b m = m ∙ ap (min S) (b ∙ cc)

@@ -9,13 +9,11 @@ use Rattle.rules.specs.Rules.{Tree, Config, place, stops, recall, look, next}
 use Rattle.rules.proofs.Laws.Tests.{or_r}
 use Rattle.tables.specs.Tables.{Tables}
 use Rattle.scan.specs.declared.Scan.{Scan}
-use Rattle.scan.specs.declared.stretches.Recalled.{Recalled}
-use Rattle.scan.specs.declared.stretches.Recalled.TheVariants.{Byte, Nothing}
-use Rattle.scan.specs.declared.steps.Move.TheVariants.{Finished, Wants, End, Take}
+use Rattle.std.specs.Prelude.{Option, None}
+use Rattle.rules.specs.Options.{option_of}
+use Rattle.scan.specs.declared.steps.Move.TheVariants.{Finished, Wants, End}
 use Rattle.scan.specs.State.{config_of, tree_of, used}
-use Rattle.scan.specs.Memory.{recalled_of, recall_by}
 use Rattle.scan.specs.Steps.{Chosen}
-use Rattle.scan.proofs.Laws.Memory.{recall-by}
 
 -- A round that goes on looks at its next place.
 goes_on : {E : Type 0} (tree : Tree E) (n : ℕ) (c : Config E) → ltb n c.boundary ≡ false → stops tree c ≡ false
@@ -40,17 +38,12 @@ module _ (t : Tables) (s : Scan) where
     pub ends_is : stops (tree_of t s) (config_of s) ≡ true → Chosen t s End
     ends_is h = cc (le-ltb s.image s.boundary i, h)
 
-    module _ (n : stops (tree_of t s) (config_of s) ≡ false) (k : Recalled)
-        (is : recalled_of k ≡ recall_by t.parent t.label (used s.stretches) (place (config_of s))) where
-      looks : (j : Recalled) → k ≡ j → next (tree_of t s) s.image (config_of s) ≡ look (tree_of t s) (config_of s) (recalled_of j)
+    module _ (n : stops (tree_of t s) (config_of s) ≡ false) (k : Option ℕ)
+        (is : option_of k ≡ recall (tree_of t s) (used s.stretches) (place (config_of s))) where
+      looks : (j : Option ℕ) → k ≡ j → next (tree_of t s) s.image (config_of s) ≡ look (tree_of t s) (config_of s) (option_of j)
       looks j e =
-          let c = config_of s in
-          let by : recall (tree_of t s) c.stretches (place c) ≡ recalled_of j =
-          sym (recall-by t s.count s.shortest (used s.stretches) (place c)) ∙ sym is ∙ ap recalled_of e in
-          goes_on (tree_of t s) s.image c (le-ltb s.image s.boundary i) n ∙ ap (look (tree_of t s) c) by
+          goes_on (tree_of t s) s.image (config_of s) (le-ltb s.image s.boundary i) n
+          ∙ ap (look (tree_of t s) (config_of s)) (sym is ∙ ap option_of e)
 
-      pub wants_is : k ≡ Nothing → Chosen t s (Wants (s.boundary - 1 - s.depth))
-      wants_is e = looks Nothing e
-
-      pub takes-is : (x : ℕ) → k ≡ Byte x → Chosen t s (Take x)
-      takes-is x e = looks (Byte x) e
+      pub wants_is : k ≡ None → Chosen t s (Wants (s.boundary - 1 - s.depth))
+      wants_is e = looks None e

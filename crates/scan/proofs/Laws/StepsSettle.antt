@@ -3,23 +3,23 @@ use Prim.Native.Nat.{ℕ, zero, suc, ◌+◌, ◌*◌, ◌<◌, min}
 use native.Mathlib.Omega.{arith}
 use mathlib.Core.Path.{◌≡◌, refl, ap, sym, subst, ◌∙◌}
 use mathlib.Core.Option.{none}
-use lib.ListN.{length, get_or}
+use lib.ListN.{length}
 use Rattle.book.specs.Book.{max_body}
 use Rattle.rules.specs.Rules.{Step, Next, finished, wants, goes, place, recalled, end_round, after, take_byte, next}
 use Rattle.rules.specs.Sweep.{recalls}
 use Rattle.rules.specs.Configs.{steps_left}
 use Rattle.tables.specs.Tables.{Tables}
 use Rattle.scan.specs.declared.Scan.{Scan}
+use Rattle.std.specs.Prelude.{Ok}
 use Rattle.scan.specs.declared.Answer.TheVariants.{Fetch, Done}
 use Rattle.scan.specs.declared.Stepped.{Stepped as Result}
 use Rattle.scan.specs.declared.steps.Move.TheVariants.{Finished, Wants, End, Take}
 use Rattle.scan.specs.State.{config_of, tree_of, max_spared}
-use Rattle.scan.specs.Calls.{found, Stepped, sparing, awaiting, owing, told, stepped, settle, enough}
+use Rattle.scan.specs.Calls.{sparing, awaiting, told, stepped, settle, enough}
 use Rattle.scan.specs.Results.{stepped_of}
-use Rattle.scan.specs.Ways.{marks, Marked}
-use Rattle.scan.specs.Steps.{Stepping, Chosen}
+use Rattle.scan.specs.Ways.{Climbs}
+use Rattle.scan.specs.Steps.{Chosen}
 use Rattle.scan.specs.Within.{Goes}
-use Rattle.scan.proofs.Laws.Ways.{carrier-alike, unbroken-marked}
 use Rattle.scan.proofs.Laws.Stay.{WithinNext, next-within}
 use Rattle.scan.proofs.Laws.Settle.{on_left}
 use Rattle.scan.proofs.Laws.Kept.{StepFor, step-goes, Ample, ample, settle-enough}
@@ -57,27 +57,24 @@ module _ {t : Tables} {s u : Scan} (runs : Runs t s u) where
 
   -- A hit is left, and answered.
   module _ (some : u.hit ≡ 0 → ⊥) where
-    pub runs-marked : Marked t.parent t.token u.hit × (0 < u.hit)
-    runs-marked =
+    pub runs-climbs : Climbs t u.hit × (0 < u.hit)
+    runs-climbs =
         let a : 0 < u.hit = omega arith in
-        (unbroken-marked t u.count u.hit runs.goes.ready.tree (runs.goes.left.some a).below, a)
+        (record { count = u.count; tree = runs.goes.ready.tree; below = (runs.goes.left.some a).below }, a)
 
-    pub runs-told : (r : Result) → stepped_of r ≡ told (marks t.parent t.token) u → Answers t s r
-    runs-told r is = is ∙ ap tells (carrier-alike (marks t.parent t.token) t refl refl (get_or t.parent u.hit 0)) ∙ go u.hit refl some
+    pub runs-told : (r : Result) → stepped_of r ≡ told t u → Answers t s r
+    runs-told r is = is ∙ go u.hit refl some
       where
-        tells : ℕ → Stepped
-        tells v = record { state = owing u u.end v; answer = found u.end (get_or t.token u.hit 0) }
-
         go : (v : ℕ) → u.hit ≡ v → (v ≡ 0 → ⊥) → told t u ≡ settle t (enough s) s
         go zero e h = absurd (h refl)
         go (suc v) e h = whole (suc v) e _ refl
 
   -- No hit is left.
   module _ (quiet : u.hit ≡ 0) where
-    pub runs-over : Chosen t u Finished → Answers t s (record { state = u; answer = Done })
+    pub runs-over : Chosen t u Finished → Answers t s (record { state = u; answer = Ok Done })
     runs-over is = whole 0 quiet finished is
 
-    pub runs-wants : (p : ℕ) → Chosen t u (Wants p) → Answers t s (record { state = awaiting u; answer = Fetch p })
+    pub runs-wants : (p : ℕ) → Chosen t u (Wants p) → Answers t s (record { state = awaiting u; answer = Ok (Fetch p) })
     runs-wants p is = whole 0 quiet (wants p) is
 
     -- A step w leads to r.
@@ -95,15 +92,6 @@ module _ {t : Tables} {s u : Scan} (runs : Runs t s u) where
 
     pub runs-ends : Chosen t u End → (r : Scan) → r ≡ stepped t u (end_round (tree_of t u) (config_of u) none) → Onwards t s u r
     runs-ends is r to = runs_on _ is r to
-
-    -- A byte from a stretch is counted, and then taken.
-    pub runs-stepping : Stepping t (sparing u 1)
-    runs-stepping =
-        let g = runs.goes in
-        record {
-          goes = record { ready = g.ready; few = (g.few.0, omega arith); slots = g.slots; within = g.within; left = g.left; idle = g.idle };
-          none = quiet;
-        }
 
     pub runs-takes : (x : ℕ) → Chosen t u (Take x) → (r : Scan) → r ≡ stepped t (sparing u 1) (take_byte (tree_of t u) (config_of u) x) → Onwards t s u r
     runs-takes x is r to = runs_on _ is r (to ∙ spared-first t u (place (config_of u)) (take_byte (tree_of t u) (config_of u) x))

@@ -2,14 +2,13 @@
 use Prim.Native.Nat.{ℕ, zero, suc, ◌+◌, ◌≤◌, ◌<◌}
 use native.Mathlib.Omega.{arith}
 use mathlib.Core.Path.{◌≡◌, refl, ap, sym, subst, ◌∙◌}
-use mathlib.Core.Bool.{Bool, true, false, ◌&&◌}
+use mathlib.Core.Bool.{Bool, true, false}
 use mathlib.Core.List.{List, [], ◌∷◌, ◌++◌, append-nil}
-use borrow.Author.Tests.{lt-ltb, le-ltb}
 use lib.ListN.{length, set, length-append}
-use Rattle.rules.specs.Rules.{Stretch, kept}
+use Rattle.rules.specs.Rules.{Stretch}
 use Rattle.rules.specs.Lists.{All}
 use Rattle.rules.specs.Stretches.{Lies, stays, staying}
-use Rattle.rules.proofs.Laws.Remember.{staying-one, Stay, stay-done, stay-again}
+use Rattle.rules.proofs.Laws.Remember.{staying-one, Stay, stay-again}
 use Rattle.scan.specs.declared.Stretch.{Stretch as Slot}
 use Rattle.scan.specs.declared.stretches.Filled.{Filled}
 use Rattle.scan.specs.State.{stretch_of, slot_of, in_use, used, laid, max_stretches}
@@ -33,22 +32,9 @@ put-filled ms m =
     let n : length ms + 1 ≡ length (ms ++ (m ∷ [])) = rw length-append in
     cc (laid-put max_stretches ms m)
 
--- A stretch is left over or not, and kept or not.
-module _ (from b : ℕ) (f : Filled) (s : Slot) where
-  pub sift-inside : from ≤ s.left → f ≡ sift_in (stays from b (stretch_of s)) f s
-  sift-inside h = sym (ap (λ x. sift_in (x && kept b (stretch_of s)) f s) (le-ltb s.left from h))
-
-  kept_by : (k : Bool) → s.left < from → kept b (stretch_of s) ≡ k → sift_in (stays from b (stretch_of s)) f s ≡ sift_in k f s
-  kept_by k h e = ap (λ x. sift_in (x && kept b (stretch_of s)) f s) (lt-ltb s.left from h) ∙ ap (λ k. sift_in k f s) e
-
-  pub sift-dropped : s.left < from → kept b (stretch_of s) ≡ false → f ≡ sift_in (stays from b (stretch_of s)) f s
-  sift-dropped h e = sym (kept_by false h e)
-
-  pub sift-put : s.left < from → kept b (stretch_of s) ≡ true → (g : Filled) → g ≡ put_in f s → g ≡ sift_in (stays from b (stretch_of s)) f s
-  sift-put h e g q = q ∙ sym (kept_by true h e)
-
 -- Some slots are filled, and the others are left to look at.
 pub record Sifting (slots : List Slot) (from b : ℕ) (f : Filled) (i : ℕ) : Type 0 where
+  pub long : length slots ≡ 5
   pub upto : i ≤ 5
   pub few : f.n ≤ i
   pub lies : All (Lies b) (rest_from slots i)
@@ -57,29 +43,24 @@ pub record Sifting (slots : List Slot) (from b : ℕ) (f : Filled) (i : ℕ) : T
   pub stay : Stay from b (used slots) held (rest_from slots i)
 
 module _ {slots : List Slot} {from b : ℕ} {f : Filled} {i : ℕ} (s : Sifting slots from b f i) where
-  pub sifting-done : rest_from slots i ≡ [] → f ≡ filled_with (staying from b (used slots))
-  sifting-done e = s.is ∙ ap filled_with (stay-done (rw e at s.stay))
-
-  module _ (size : length slots ≡ 5) (h : i < 5) (here : in_use (slot_at slots i) ≡ true) where
+  module _ (h : i < 5) (here : in_use (slot_at slots i) ≡ true) where
     abbrev m : Stretch ℕ
     m = stretch_of (slot_at slots i)
 
     all_lie : All (Lies b) (m ∷ rest_from slots (i + 1))
-    all_lie = subst (All (Lies b)) (more slots size i h here) s.lies
-
-    pub lies-here : Lies b m
-    lies-here = all_lie.0
+    all_lie = subst (All (Lies b)) (more slots s.long i h here) s.lies
 
     pub sifting-again : (g : Filled) → g ≡ sift_in (stays from b m) f (slot_at slots i) → Sifting slots from b g (i + 1)
     sifting-again g e =
         let r = go (stays from b m) (e ∙ ap (λ f. sift_in (stays from b m) f (slot_at slots i)) s.is) in
         record {
+          long = s.long;
           upto = omega arith;
           few = omega (arith, r.1, ap (λ f. f.n) s.is, s.few);
           lies = all_lie.1;
           held = s.held ++ staying from b (m ∷ []);
           is = r.0 ∙ ap (λ l. filled_with (s.held ++ l)) (sym (staying-one from b m));
-          stay = stay-again (rw (more slots size i h here) at s.stay) _ refl;
+          stay = stay-again (rw (more slots s.long i h here) at s.stay) _ refl;
         }
       where
         go : (x : Bool) → g ≡ sift_in x (filled_with s.held) (slot_at slots i)

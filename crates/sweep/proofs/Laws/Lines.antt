@@ -1,11 +1,9 @@
--- A number's fewest digits are its decimal ones, and at most 20.
+-- A number's fewest digits are its decimal ones.
 use Prim.Native.Nat.{ℕ, zero, suc, ◌-◌, ◌/◌, ◌%◌, ◌^◌, ◌≤◌, ◌<◌}
-use native.Mathlib.Nat.{pow-suc, one-le-pow, pow-le-pow_right}
+use native.Mathlib.Nat.{pow-suc, one-le-pow}
 use native.Mathlib.Omega.{arith}
-use mathlib.Core.Path.{◌≡◌, refl}
-use mathlib.Core.Bool.{Bool, true, false}
-use borrow.Author.Tests.{lt-ltb, le-ltb, leb-true, leb-false}
-use lib.Dec.{leb}
+use mathlib.Core.Path.{◌≡◌}
+use borrow.Author.Tests.{lt-ltb, le-ltb}
 use Rattle.io.specs.Digits.{last_digits, IsDigitCount}
 use Rattle.sweep.specs.Lines.{decimal_by, decimal}
 
@@ -31,14 +29,3 @@ digits-by (suc fuel) (suc (suc k)) n h f =
 -- Whoever has the fewest digits of a number has it in decimal.
 pub digits_decimal : (n k : ℕ) → IsDigitCount 10 1 n k → last_digits 10 k n ≡ decimal n
 digits_decimal n k f = digits-by (suc n) k n (omega arith) f
-
--- A number of 64 bits has 20 digits at most.
-few-by : (n k : ℕ) → n < 18446744073709551616 → IsDigitCount 10 1 n k → (b : Bool) → leb k 20 ≡ b → k ≤ 20
-few-by n k h f true e = leb-true k 20 e
-few-by n k h f false e =
-    let l = leb-false k 20 e in
-    let p : 10 ^ 20 ≤ 10 ^ (k - 1) = pow-le-pow_right {n = 10} (omega arith) {i = 20} {j = k - 1} (omega arith) in
-    absurd (omega (arith, f.2 (omega arith)))
-
-pub few-digits : (n k : ℕ) → n < 18446744073709551616 → IsDigitCount 10 1 n k → k ≤ 20
-few-digits n k h f = few-by n k h f (leb k 20) refl

@@ -22,18 +22,19 @@ start-long n false e = le-ltb image_limit (min (suc image_limit) n) (omega (arit
 
 -- What is said of the starts is said of the whole.
 pub judged : (v : Verdict Totals) (book image : List ℕ) → v ≡ opening book (length image)
-    → (v ≡ opening book (length image))
-    × ((whole all : List ℕ) → book ≡ take needed whole → image ≡ take (suc image_limit) all → v ≡ opening whole (length all))
+    → (whole all : List ℕ) → book ≡ take needed whole → image ≡ take (suc image_limit) all → v ≡ opening whole (length all)
 unfolding opening opened
-judged v book image e = (
-  e,
-  λ whole all p q.
-      e
-      ∙ ap (λ b. opened (summary (read_book b)) (length image)) p
-      ∙ ap (λ r. opened (summary r) (length image)) (enough needed (omega arith) whole)
-      ∙ by-test (summary (read_book whole)) (length image) (length all)
-      (ap (λ l. ltb image_limit (length l)) q ∙ ap (ltb image_limit) (length-take (suc image_limit) all) ∙ start-long (length all) (ltb image_limit (length all)) refl),
-)
+judged v book image e whole all p q =
+    e
+    ∙ ap (λ b. opened (summary (read_book b)) (length image)) p
+    ∙ ap (λ r. opened (summary r) (length image)) (enough needed (omega arith) whole)
+    ∙ by-test (summary (read_book whole)) (length image) (length all)
+    (ap (λ l. ltb image_limit (length l)) q ∙ ap (ltb image_limit) (length-take (suc image_limit) all) ∙ start-long (length all) (ltb image_limit (length all)) refl)
+
+-- The book's refusal comes first.
+pub unread : (book : List ℕ) (n k v : ℕ) → refused k v ≡ summary (read_book book) → refused k v ≡ opening book n
+unfolding opening opened
+unread book n k v e = ap (λ v. opened v n) e
 
 module _ (book image : List ℕ) (totals : Totals) (e : accepted totals ≡ summary (read_book book)) where
   pub over : image_limit < length image → refused 8 image_limit ≡ opening book (length image)
@@ -47,15 +48,3 @@ module _ (book image : List ℕ) (totals : Totals) (e : accepted totals ≡ summ
   within h =
       let s : opened (accepted totals) (length image) ≡ accepted totals = rw (le-ltb image_limit (length image) h, opened) in
       sym s ∙ ap (λ v. opened v (length image)) e
-
--- A sweep comes where the book is accepted and the image is within its limit.
-sweeps-by : (t u : Totals) (n : ℕ) (b : Bool) → ltb image_limit n ≡ b
-    → accepted t ≡ elim b as (λ _. Verdict Totals) [ true ↦ refused 8 image_limit | false ↦ accepted u ]
-    → (accepted t ≡ accepted u) × (n ≤ image_limit)
-sweeps-by t u n true f e = absurd (let z : ◌≡◌ {A = ℕ} 0 1 = cc in omega arith)
-sweeps-by t u n false f e = (e, ltb-false image_limit n f)
-
-pub sweeps : (v : Verdict Totals) (t : Totals) (n : ℕ) → accepted t ≡ opened v n → (accepted t ≡ v) × (n ≤ image_limit)
-unfolding opening opened
-sweeps (refused k w) t n e = absurd (let z : ◌≡◌ {A = ℕ} 0 1 = cc in omega arith)
-sweeps (accepted u) t n e = sweeps-by t u n (ltb image_limit n) refl e

@@ -1,21 +1,21 @@
 -- A book that is accepted, and the sweep with tables that are long enough for every such book.
+use Rattle.std.specs.Prelude.{Result}
 use Prim.Native.Nat.{ℕ, ◌+◌, ◌≤◌}
 use native.Mathlib.Omega.{arith}
-use mathlib.Core.Path.{◌≡◌, ap, sym, ◌∙◌}
+use mathlib.Core.Path.{◌≡◌, ap, ◌∙◌}
 use mathlib.Core.List.{List}
 use borrow.Author.Tests.{le-ltb}
 use lib.ListN.{length}
 use Rattle.rules.specs.Tokens.{body_bytes}
-use Rattle.book.specs.Book.{accepted, totals_of, summary, read_book, max_image}
-use Rattle.book.specs.Answers.{totalled}
-use Rattle.book.specs.declared.Totals.{Totals as Sums}
-use Rattle.book.proofs.Laws.Accepted.{summed, accepted-fit}
+use Rattle.book.specs.Book.{max_image}
+use Rattle.book.proofs.Laws.Accepted.{accepted-fit}
 use Rattle.tables.specs.Tables.{Tables, built, written, shortest_table}
-use Rattle.image.specs.declared.Swept.{Swept as Answer}
+use Rattle.image.specs.declared.Found.{Found}
+use Rattle.image.specs.declared.Refusal.{Refusal}
 use Rattle.whole.specs.Image.{room, hits_of, fetches_of, spares_of, counted, noted, sweep_image}
 use Rattle.image.specs.Results.{swept_of, fetched_of, spared_of}
-use Rattle.image.specs.Rule5.{tokens_in, tokens_of}
-use Rattle.sweep.specs.Program.{Accepted, Known, Answered}
+use Rattle.image.specs.Rule5.{tokens_of}
+use Rattle.sweep.specs.Program.{Accepted, Answered}
 
 module _ (book image : List ℕ) (t : Tables) (ends numbers : List ℕ) (read : Accepted book) (small : length image ≤ max_image)
     (long : 16385 ≤ shortest_table t) where
@@ -33,7 +33,7 @@ module _ (book image : List ℕ) (t : Tables) (ends numbers : List ℕ) (read : 
       let f = accepted-fit book (tokens_of book) read in
       cc (read, le-ltb max_image (length image) small, le-ltb (shortest_table t) (1 + body_bytes (tokens_of book)) (omega (arith, f.bodies)))
 
-  pub finds : (r : Answer) (u : Tables) (ends' numbers' : List ℕ)
+  pub finds : (r : Result Found Refusal) (u : Tables) (ends' numbers' : List ℕ)
       → record { answer = swept_of r; fetched = fetched_of r; spared = spared_of r; tables = u; ends = ends'; tokens = numbers' }
       ≡ sweep_image book image t ends numbers
       → Answered book image r ends numbers ends' numbers'
@@ -46,14 +46,3 @@ module _ (book image : List ℕ) (t : Tables) (ends numbers : List ℕ) (read : 
         in-ends = ap (λ s. s.ends) q;
         in-tokens = ap (λ s. s.tokens) q;
       }
-
--- What reading tells of a book that is accepted.
-pub known : (book : List ℕ) (totals : Sums) → accepted (totalled totals) ≡ summary (read_book book) → Known book totals
-known book totals e =
-    let s = summed book (totalled totals) e in
-    let t : tokens_of book ≡ s.tokens = ap tokens_in s.read in
-    let sums = s.sums ∙ ap totals_of (sym t) in
-    record {
-      read = s.read ∙ ap accepted (sym t);
-      sums = record { count = ap (λ a. a.tokens) sums; bodies = ap (λ a. a.bodies) sums; shortest = ap (λ a. a.shortest) sums; longest = ap (λ a. a.longest) sums };
-    }

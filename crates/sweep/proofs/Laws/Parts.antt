@@ -1,4 +1,5 @@
 -- What is listed of a part, as the buffers hold it.
+use Rattle.std.specs.Prelude.{Result}
 use Prim.Native.Nat.{ℕ, zero, suc, ◌+◌, ◌-◌, ◌≤◌, ◌<◌}
 use native.Mathlib.Omega.{arith}
 use mathlib.Core.Path.{◌≡◌, refl, ap, sym, subst, ◌∙◌}
@@ -6,19 +7,21 @@ use mathlib.Core.List.Memᴰ
 use mathlib.Core.List.{List, [], ◌∷◌, ◌++◌, map, Memᴰ}
 use borrow.Author.Tests.{lt-ltb, le-ltb}
 use lib.Dec.{ltb}
-use lib.ListN.{length, get_or, take, drop, length-map, length-take, length-drop, length-append, get_or-append}
+use lib.ListN.{length, get_or, take, drop, length-map, length-take, length-drop, length-append}
 use lib.Seq.{take_all, take_at}
 use Rattle.rules.specs.Sweep.{Ordered, further}
 use Rattle.rules.proofs.Laws.Exact.{happens-exact}
 use Rattle.book.specs.Book.{accepted}
 use Rattle.book.specs.declared.Totals.{Totals as Sums}
 use Rattle.book.proofs.Laws.Accepted.{accepted-setting, accepted-longest}
-use Rattle.image.specs.declared.Swept.{Swept}
+use Rattle.image.specs.declared.Found.{Found}
+use Rattle.image.specs.declared.Refusal.{Refusal}
 use Rattle.whole.specs.Image.{room, hits_of, counted, noted}
 use Rattle.image.specs.Results.{swept_of}
 use Rattle.image.specs.Rule5.{tokens_of}
 use Rattle.listing.specs.Parts.{max_hits, max_part, part_from, part_to, between, past, from_at, to_at, part_at}
-use Rattle.sweep.specs.Program.{Known, Answered, pairs, held, Listing}
+use Rattle.sweep.specs.Program.{Known, Answered}
+use Rattle.sweep.specs.Listed.{pairs, held, Listing}
 use Rattle.listing.proofs.Laws.Whole.{select-all}
 use Rattle.listing.proofs.Laws.Fits.{part-fits}
 
@@ -52,16 +55,8 @@ module _ (found : List (ℕ × ℕ)) (r : ℕ) (few : length found ≤ r) where
   noted-take : (part : ℕ × ℕ → ℕ) (l : List ℕ) → take (length found) (noted part r found l) ≡ map part found
   noted-take part l = ap (take (length found)) (noted-front part l) ∙ take_at (map part found) _ (length found) (length-map found part)
 
-  noted-at : (part : ℕ × ℕ → ℕ) (l : List ℕ) (i : ℕ) → i < length found → get_or (noted part r found l) i 0 ≡ get_or (map part found) i 0
-  noted-at part l i h =
-      ap (λ l. get_or l i 0) (noted-front part l) ∙ get_or-append (map part found) _ 0 i (omega (arith, length-map found part))
-
   to-all : (n : ℕ) → n ≤ r → counted r n ≡ accepted n
   to-all n h = cc (le-ltb r n h)
-
--- The program's buffers have room for a part's hits.
-pub room-enough : {n : ℕ} → n ≡ 262144 → max_hits ≤ n
-room-enough e = omega arith
 
 -- A part that goes on from `at`.
 module _ (book image : List ℕ) (totals : Sums) (at : ℕ) (known : Known book totals) (inside : at < length image) where
@@ -79,7 +74,7 @@ module _ (book image : List ℕ) (totals : Sums) (at : ℕ) (known : Known book 
 
   -- it begins at `from` and ends at `to`, and the buffers, as lent and as left, have its hits
   module _ (from to : ℕ) (begins : from ≡ part_from totals.longest at) (ends_at : to ≡ part_to (length image) from)
-      (answer : Swept) (ends numbers ends' numbers' : List ℕ) (room-ends : max_hits ≤ length ends) (room-numbers : max_hits ≤ length numbers)
+      (answer : Result Found Refusal) (ends numbers ends' numbers' : List ℕ) (room-ends : max_hits ≤ length ends) (room-numbers : max_hits ≤ length numbers)
       (f : Answered book (between from to image) answer ends numbers ends' numbers') (hits : ℕ) (number : (n : ℕ) → swept_of answer ≡ accepted n → hits ≡ n) where
     from_is : from ≡ from_at ts image at
     from_is = begins ∙ ap (λ d. part_from d at) known.sums.longest
@@ -100,37 +95,41 @@ module _ (book image : List ℕ) (totals : Sums) (at : ℕ) (known : Known book 
     hits-is : hits ≡ length found
     hits-is = number (length found) (of_part_lem.answer ∙ to-all found (room ends numbers) few (length found) few)
 
-    pub hits-fit : (hits ≤ length ends') × (hits ≤ length numbers')
-    hits-fit =
+    pub hits-fit : hits ≤ max_hits
+    hits-fit = omega (arith, hits-is, part-fits book ts known.read (part_at ts image at) part-short)
+
+    within : (hits ≤ length ends') × (hits ≤ length numbers')
+    within =
         let e = ap length (of_part_lem.in-ends ∙ noted-front found (room ends numbers) few (λ h. h.0) ends) in
         let n = ap length (of_part_lem.in-tokens ∙ noted-front found (room ends numbers) few (λ h. h.1) numbers) in (
           omega (arith, hits-is, simp length-append at e, length-map found (λ h. h.0)),
           omega (arith, hits-is, simp length-append at n, length-map found (λ h. h.1)),
         )
 
-    at-end : (i : ℕ) → i < length found → get_or ends' i 0 ≡ get_or (map (λ h. h.0) found) i 0
-    at-end i l = ap (λ l. get_or l i 0) of_part_lem.in-ends ∙ noted-at found (room ends numbers) few (λ h. h.0) ends i l
+    held-ends : take hits ends' ≡ map (λ h. h.0) found
+    held-ends = ap (λ n. take n ends') hits-is ∙ ap (take (length found)) of_part_lem.in-ends ∙ noted-take found (room ends numbers) few (λ h. h.0) ends
 
-    holds : held (length found) ends' numbers' ≡ found
-    holds =
-        let e = ap (take (length found)) of_part_lem.in-ends ∙ noted-take found (room ends numbers) few (λ h. h.0) ends in
-        let n = ap (take (length found)) of_part_lem.in-tokens ∙ noted-take found (room ends numbers) few (λ h. h.1) numbers in
-        ap (λ l. pairs l (take (length found) numbers')) e ∙ ap (pairs (map (λ h. h.0) found)) n ∙ pairs-parts found
+    held-numbers : take hits numbers' ≡ map (λ h. h.1) found
+    held-numbers = ap (λ n. take n numbers') hits-is ∙ ap (take (length found)) of_part_lem.in-tokens ∙ noted-take found (room ends numbers) few (λ h. h.1) numbers
 
-    pub listing : (before : ℕ) → before ≤ hits
-        → ((i : ℕ) → i < before → get_or ends' i 0 ≤ at - from)
-        → (before < hits → at - from < get_or ends' before 0)
+    holds : held hits ends' numbers' ≡ found
+    holds = ap (λ l. pairs l (take hits numbers')) held-ends ∙ ap (pairs (map (λ h. h.0) found)) held-numbers ∙ pairs-parts found
+
+    pub listing : (before : ℕ) → before ≤ length (take hits ends')
+        → ((i : ℕ) → i < before → get_or (take hits ends') i 0 ≤ at - from)
+        → (before < length (take hits ends') → at - from < get_or (take hits ends') before 0)
         → Listing ts image at (record { from = from; to = to; before = before; hits = hits }) ends' numbers'
-    listing before h p q = record {
-      begins = from_is;
-      ends_at = to_is;
-      inside = (h, hits-fit.0, hits-fit.1);
-      lists =
-          passed-past ts (from_at ts image at) at found before
-          (happens-exact ts (accepted-setting book ts known.read) (part_at ts image at)).occurrences.ordered (omega (arith, hits-is))
-          (λ i l. omega (arith, goes_on.2, from_is, p i l, at-end i (omega (arith, hits-is))))
-          (λ l. omega (arith, goes_on.2, from_is, q (omega (arith, hits-is)), at-end before l))
-          ∙ ap (λ l. map (further (from_at ts image at)) (drop before l)) (sym holds)
-          ∙ ap (λ n. map (further (from_at ts image at)) (drop before (held n ends' numbers'))) (sym hits-is)
-          ∙ ap (λ n. map (further n) (drop before (held hits ends' numbers'))) (sym from_is);
-    }
+    listing before h p q =
+        let n : length (take hits ends') ≡ length found = ap length held-ends ∙ length-map found (λ h. h.0) in
+        record {
+          begins = from_is;
+          ends_at = to_is;
+          inside = (omega (arith, n, hits-is), within.0, within.1);
+          lists =
+              passed-past ts (from_at ts image at) at found before
+              (happens-exact ts (accepted-setting book ts known.read) (part_at ts image at)).occurrences.ordered (omega (arith, n))
+              (λ i l. omega (arith, goes_on.2, from_is, p i l, ap (λ l. get_or l i 0) held-ends))
+              (λ l. omega (arith, goes_on.2, from_is, q (omega (arith, n)), ap (λ l. get_or l before 0) held-ends))
+              ∙ ap (λ l. map (further (from_at ts image at)) (drop before l)) (sym holds)
+              ∙ ap (λ n. map (further n) (drop before (held hits ends' numbers'))) (sym from_is);
+        }

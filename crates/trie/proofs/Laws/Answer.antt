@@ -1,5 +1,5 @@
 -- What building answers, from what reading the book answered.
-use Rattle.std.specs.Prelude.{ℕ, ◌+◌, ◌≤◌, ◌<◌, ◌≡◌, true, false, List, length}
+use Rattle.std.specs.Prelude.{ℕ, ◌+◌, ◌≤◌, ◌<◌, ◌≡◌, true, false, List, [], length}
 use Rattle.std.proofs.Common.{arith, sym, ◌∙◌, lt-ltb, le-ltb}
 use Rattle.std.proofs.Math.Path.{ap}
 use Rattle.rules.specs.Lists.{over}
@@ -15,7 +15,7 @@ use Rattle.tables.specs.Inserted.{unshifted}
 use Rattle.tables.proofs.Laws.Made.{written-lent, answer_to}
 use Rattle.tables.proofs.Laws.Represents.{nodes-few}
 
-shortest-room : (t : Tables) (n : ℕ) → n ≤ shortest_table t → Room (unshifted t) n
+shortest-room : (t : Tables) (n : ℕ) → n ≤ shortest_table t → Room t n
 shortest-room t n h = record { parents = omega arith; labels = omega arith; tokens = omega arith; firsts = omega arith; nexts = omega arith }
 
 module _ (book : List ℕ) (t : Tables) where
@@ -45,20 +45,19 @@ module _ (book : List ℕ) (t : Tables) where
         ∙ to-short s.tokens (lt-ltb (shortest_table t) (1 + body_bytes s.tokens) (omega (arith, bodies)))
         ∙ ap (answer_to t) (sym s.read)
 
-    pub fillable : 1 + totals.bodies ≤ short → Fillable book (unshifted t) totals.tokens
+    pub fillable : 1 + totals.bodies ≤ short → Fillable book t
     fillable h = record {
       tokens = s.tokens;
       read = s.read;
-      count = ap (λ a. a.tokens) s.sums;
       room = shortest-room t (1 + body_bytes s.tokens) (omega (arith, bodies));
     }
 
     -- the tree is there
-    module _ (h : 1 + totals.bodies ≤ short) (c : Counted) (f : (ts : List (List ℕ)) → read_book book ≡ accepted ts → c ≡ filled ts (unshifted t)) where
+    module _ (h : 1 + totals.bodies ≤ short) (c : Counted) (f : (ts : List (List ℕ)) → read_book book ≡ accepted ts → c ≡ filled ts t) where
       abbrev u : Tables
       u = c.tables
 
-      tree : u ≡ written (unshifted (built s.tokens)) (unshifted t)
+      tree : u ≡ written (unshifted (built s.tokens)) t
       unfolding filled
       tree = ap (λ c. c.tables) (f s.tokens s.read)
 
@@ -66,28 +65,31 @@ module _ (book : List ℕ) (t : Tables) where
       unfolding filled
       many = ap (λ c. c.count) (f s.tokens s.read)
 
-      lists : (t' : Tables) → t' ≡ written (unshifted (built s.tokens)) (unshifted t)
-          → Lent (tables t'.parent t'.label t'.token t'.first t'.next t.shift) (unshifted (built s.tokens))
-      lists t' e = rw e (written-lent (unshifted (built s.tokens)) (tables t.parent t.label t.token t.first t.next t.shift))
+      -- the shifts are as they were lent
+      same : u.shift ≡ t.shift
+      same = ap (λ t. t.shift) tree
 
-      pub shiftable : Shiftable book u.parent u.label u.first u.next t.shift c.count totals.shortest
+      lists : (t' : Tables) → t' ≡ written (unshifted (built s.tokens)) t → Lent t' (unshifted (built s.tokens))
+      lists t' e = rw e (written-lent (unshifted (built s.tokens)) t)
+
+      pub shiftable : Shiftable book (record u { token = [] }) c.count totals.shortest
       shiftable = record {
         given = record { tokens = s.tokens; read = s.read; short = ap (λ a. a.shortest) s.sums };
         token = u.token;
         tree = lists u tree;
         size = many;
-        room = omega (arith, many, nodes-few s.tokens, bodies, shortest-shift);
+        room = omega (arith, many, nodes-few s.tokens, bodies, shortest-shift, ap length same);
       }
         where
           shortest-shift : short ≤ length t.shift
           shortest-shift = omega arith
 
       -- and the shifts
-      pub answer-made : (shift : List ℕ) → ((ts : List (List ℕ)) → read_book book ≡ accepted ts → shift ≡ over (built ts).shift t.shift)
+      pub answer-made : (shift : List ℕ) → ((ts : List (List ℕ)) → read_book book ≡ accepted ts → shift ≡ over (built ts).shift u.shift)
           → record {
             answer = accepted (record { nodes = c.count; shortest = totals.shortest; longest = totals.longest });
             tables = tables u.parent u.label u.token u.first u.next shift;
           } ≡ build book t
       answer-made shift g =
-          rw (s.sums, many, tree, g s.tokens s.read)
+          rw (s.sums, many, g s.tokens s.read, tree)
           (to-long s.tokens (le-ltb (shortest_table t) (1 + body_bytes s.tokens) (omega (arith, bodies))) ∙ ap (answer_to t) (sym s.read))

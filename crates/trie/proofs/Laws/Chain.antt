@@ -1,22 +1,20 @@
 -- The walk along a chain: a turn of it, where it stops, that it finds what `along` finds, and where it ends if it finds nothing.
-use Rattle.std.specs.Prelude.{ℕ, zero, suc, ◌+◌, ◌-◌, ◌≤◌, ◌<◌, ◌≡◌, refl, List, get_or}
-use Rattle.std.proofs.Common.{arith, sym, ◌∙◌, eq-eqb, ne_eqb}
+use Rattle.std.specs.Prelude.{ℕ, zero, suc, ◌+◌, ◌-◌, ◌≤◌, ◌<◌, ◌≡◌, refl, List, Result, Ok, Err, get_or}
+use Rattle.std.proofs.Common.{arith, ap, sym, ◌∙◌, eq-eqb, ne_eqb}
 use Rattle.std.proofs.Math.Option.{Option, some, none}
 use Rattle.rules.proofs.Laws.Tests.{split}
 use Rattle.tables.specs.Tables.{Tables}
 use Rattle.tables.specs.Walks.{along, child_by}
 use Rattle.trie.specs.Chain.{walked}
-use Rattle.trie.specs.declared.chain.Way.{Way}
-use Rattle.trie.specs.declared.chain.Way.TheVariants.{Found, Ends}
 use Rattle.tables.specs.Inserted.{last_of}
 use Rattle.tables.specs.Shape.{tag, head, sib, Shape}
 
 module _ (label next : List ℕ) (x : ℕ) where
-  pub walked_end : (left last at : ℕ) → at ≡ 0 → walked label next x left last at ≡ Ends last
+  pub walked_end : (left last at : ℕ) → at ≡ 0 → walked label next x left last at ≡ Err last
   walked_end zero last at e = refl
   walked_end (suc left) last at e = cc (eq-eqb at 0 e)
 
-  pub walked_here : (left last at : ℕ) → (left ≡ 0 → ⊥) → (at ≡ 0 → ⊥) → get_or label at 0 ≡ x → walked label next x left last at ≡ Found at
+  pub walked_here : (left last at : ℕ) → (left ≡ 0 → ⊥) → (at ≡ 0 → ⊥) → get_or label at 0 ≡ x → walked label next x left last at ≡ Ok at
   walked_here zero last at l a e = absurd (l refl)
   walked_here (suc left) last at l a e = cc (ne_eqb at 0 a, eq-eqb (get_or label at 0) x e)
 
@@ -31,12 +29,16 @@ pub along-alike : (t u : Tables) → t.label ≡ u.label → t.next ≡ u.next �
 along-alike t u l n x zero at = refl
 along-alike t u l n x (suc fuel) at = cc (along-alike t u l n x fuel (get_or t.next at 0))
 
-abbrev pub found_of : Way → Option ℕ
-found_of (Found v) = some v
-found_of (Ends v) = none
+-- So a child is found by the labels, the first children and the siblings.
+pub child-alike : (t u : Tables) → t.label ≡ u.label → t.first ≡ u.first → t.next ≡ u.next → (count v x : ℕ) → child_by t count v x ≡ child_by u count v x
+child-alike t u l f n count v x = along-alike t u l n x count (get_or t.first v 0) ∙ ap (λ first. along u x count (get_or first v 0)) f
+
+abbrev pub found_of : Result ℕ ℕ → Option ℕ
+found_of (Ok v) = some v
+found_of (Err v) = none
 
 module _ (t : Tables) (x : ℕ) where
-  abbrev walk : ℕ → ℕ → ℕ → Way
+  abbrev walk : ℕ → ℕ → ℕ → Result ℕ ℕ
   walk = walked t.label t.next x
 
   pub walked-along : (fuel last at : ℕ) → along t x fuel at ≡ found_of (walk fuel last at)
@@ -47,7 +49,7 @@ module _ (t : Tables) (x : ℕ) where
       (λ f. cc (ne_eqb at 0 e, eq-eqb (tag t at) x f))
       (λ f. cc (ne_eqb at 0 e, ne_eqb (tag t at) x f, walked-along fuel at (sib t at))))
 
-  pub walked-child : (count v at : ℕ) (w : Way) → at ≡ head t v → w ≡ walk count 0 at → found_of w ≡ child_by t count v x
+  pub walked-child : (count v at : ℕ) (w : Result ℕ ℕ) → at ≡ head t v → w ≡ walk count 0 at → found_of w ≡ child_by t count v x
   walked-child count v at w h e = rw (e, h) (sym (walked-along count 0 (head t v)))
 
   module _ (n : ℕ) (s : Shape t n) where
@@ -66,15 +68,15 @@ module _ (t : Tables) (x : ℕ) where
         ))
 
     -- a walk that finds nothing ends at the last of the chain
-    pub walked-last : (fuel last at l : ℕ) → 0 < at → at < n → n ≤ at + fuel → walk fuel last at ≡ Ends l → l ≡ last_of t fuel at
+    pub walked-last : (fuel last at l : ℕ) → 0 < at → at < n → n ≤ at + fuel → walk fuel last at ≡ Err l → l ≡ last_of t fuel at
     walked-last zero last at l a b h e = absurd (omega arith)
     walked-last (suc fuel) last at l a b h e =
         let z : at ≡ 0 → ⊥ = λ q. omega arith in
         split (tag t at) x
-        (λ f. let q : Found at ≡ Ends l = cc (ne_eqb at 0 z, eq-eqb (tag t at) x f) in absurd (let o : ◌≡◌ {A = ℕ} 0 1 = cc in omega arith))
-        (λ f. let q : walk fuel at (sib t at) ≡ Ends l = cc (ne_eqb at 0 z, ne_eqb (tag t at) x f) in
+        (λ f. let q : Ok at ≡ Err l = cc (ne_eqb at 0 z, eq-eqb (tag t at) x f) in absurd (let o : ◌≡◌ {A = ℕ} 0 1 = cc in omega arith))
+        (λ f. let q : walk fuel at (sib t at) ≡ Err l = cc (ne_eqb at 0 z, ne_eqb (tag t at) x f) in
         split (sib t at) 0
-        (λ y. let i : Ends at ≡ Ends l = sym (walked_end t.label t.next x fuel at (sib t at) y) ∙ q in
+        (λ y. let i : Err at ≡ Err l = sym (walked_end t.label t.next x fuel at (sib t at) y) ∙ q in
         cc (eq-eqb (sib t at) 0 y))
         (λ y. let k = (s.sibs at a b).node (omega arith) in
         rw (ne_eqb (sib t at) 0 y, last_of) (walked-last fuel at (sib t at) l (omega arith) k.1 (omega (arith, k.0)) q)))

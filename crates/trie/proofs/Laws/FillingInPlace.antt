@@ -1,17 +1,16 @@
 -- The shifts of all nodes in place: an entry lowered, a walk of a word, and the way from the parents down.
-use Rattle.std.specs.Prelude.{ℕ, suc, ◌+◌, ◌-◌, ◌≤◌, ◌<◌, min, ◌≡◌, Bool, List, [], ◌∷◌, reverse, length, get_or, take, drop, set, replicate}
-use Rattle.std.proofs.Common.{arith, add-one, ap, sym, ◌∙◌, lt-ltb, le-ltb, drop-cons}
+use Rattle.std.specs.Prelude.{Option as Found, Some, None}
+use Rattle.std.specs.Prelude.{ℕ, suc, ◌+◌, ◌-◌, ◌≤◌, ◌<◌, min, ◌≡◌, refl, Bool, List, [], ◌∷◌, reverse, length, get_or, take, set}
+use Rattle.std.proofs.Common.{arith, ap, sym, ◌∙◌, lt-ltb, le-ltb}
 use Rattle.std.proofs.Math.Option.{Option, some, none}
-use Rattle.std.proofs.lemmas.List.{length-replicate, replicate-append-replicate, set_at}
-use Rattle.std.proofs.Math.Seq.{append_snoc}
-use Rattle.rules.specs.Lists.{over}
+use Rattle.rules.specs.Options.{option_of}
 use Rattle.rules.specs.Tokens.{shortened}
+use Rattle.tables.specs.Tables.{Tables}
 use Rattle.tables.specs.Walks.{child_by}
-use Rattle.trie.specs.Answers.{tree_only, child_of}
-use Rattle.trie.specs.declared.Child.{Child}
-use Rattle.trie.specs.declared.Child.TheVariants.{At, Absent}
+use Rattle.trie.specs.Answers.{tree_only}
 use Rattle.trie.specs.InPlace.{reversed_if}
 use Rattle.trie.specs.Filling.{Lows, lows, lowered, walked_at, handed_down, Walkable, head_at}
+use Rattle.trie.proofs.Laws.Chain.{child-alike}
 use Rattle.trie.proofs.Laws.Kids.{root_none, root-some}
 use Rattle.trie.proofs.Laws.WordInPlace.{either-length, last-left}
 
@@ -21,11 +20,6 @@ module _ (l : List ℕ) (v s : ℕ) where
 
   pub lowered-set : s < get_or l v 0 → set l v s ≡ lowered l v s
   lowered-set h = cc (lt-ltb s (get_or l v 0) h)
-
--- One entry more at the front.
-pub over-more : (v a : ℕ) (l : List ℕ) → v < length l → set (over (replicate v a) l) v a ≡ over (replicate (v + 1) a) l
-over-more v a l h =
-    rw (length-replicate, length-replicate, drop-cons l v 0 h, set_at (replicate v a) (get_or l v 0) (drop (suc v) l) a v (length-replicate v a), ← replicate-append-replicate v 1 a, add-one, append_snoc)
 
 -- The nodes from v on are still to come.
 pub record Handing (parent : List ℕ) (count : ℕ) (l₀ l : Lows) (v : ℕ) : Type 0 where
@@ -63,14 +57,17 @@ pub head_read : (kids : List ℕ) (b : Bool) (body : List ℕ) (s x : ℕ) → x
 head_read kids b body s x e = rw (e, either-length b body)
 
 -- A walk at s: what is left of it, from here on, comes to `end`.
-pub record Walking (label first next : List ℕ) (count : ℕ) (word : List ℕ) (s : ℕ) (end l : Lows) (node left : ℕ) : Type 0 where
+pub record Walking (tree : Tables) (count : ℕ) (word : List ℕ) (s : ℕ) (end l : Lows) (node left : ℕ) : Type 0 where
   pub held : node < count
   pub within : left ≤ length word
-  pub rest : walked_at (child_by (tree_only [] label [] first next) count) s (reverse (take left word)) node l ≡ end
+  pub rest : walked_at (child_by tree count) s (reverse (take left word)) node l ≡ end
 
-module _ {label first next : List ℕ} {count : ℕ} {kids met₀ whole₀ : List ℕ} (t : Walkable label first next count kids met₀ whole₀) where
+module _ {tree : Tables} {count : ℕ} {kids met₀ whole₀ : List ℕ} (t : Walkable tree count kids met₀ whole₀) where
   abbrev child : ℕ → ℕ → Option ℕ
-  child = child_by (tree_only [] label [] first next) count
+  child = child_by tree count
+
+  as-chains : (v x : ℕ) → child v x ≡ child_by (tree_only [] tree.label [] tree.first tree.next) count v x
+  as-chains = child-alike tree (tree_only [] tree.label [] tree.first tree.next) refl refl refl count
 
   -- The first node, by the last byte that is left.
   module _ (word : List ℕ) (s left : ℕ) (h : s < length word) (at : left ≡ length word - 1 - s) (x : ℕ) (is : x ≡ get_or word left 0) (byte : x < 256) where
@@ -80,36 +77,36 @@ module _ {label first next : List ℕ} {count : ℕ} {kids met₀ whole₀ : Lis
     -- There is none: the walk changes nothing.
     pub walk-still : get_or kids x 0 ≡ 0 → (l : Lows) → walked_at child s (reverse (shortened word s)) 0 l ≡ l
     walk-still e l =
-        rw last-is (step-none child s 0 x (reverse (take left word)) l (root_none t.heads x byte e))
+        rw last-is (step-none child s 0 x (reverse (take left word)) l (as-chains 0 x ∙ root_none t.heads x byte e))
 
     module _ (w : ℕ) (to : w ≡ get_or kids x 0) (d : w ≡ 0 → ⊥) where
       pub walk-head : w < count
-      walk-head = t.below 0 x w t.some-node (root-some t.heads x byte w to d)
+      walk-head = t.below 0 x w t.some-node (as-chains 0 x ∙ root-some t.heads x byte w to d)
 
       pub walk_first : (met : List ℕ) → met ≡ lowered met₀ w s
           → walked_at child s (reverse (take left word)) w (lows met whole₀)
           ≡ walked_at child s (reverse (shortened word s)) 0 (lows met₀ whole₀)
       walk_first met e =
-          sym (rw (last-is, e) (step-on child s 0 x (reverse (take left word)) (lows met₀ whole₀) w (root-some t.heads x byte w to d)))
+          sym (rw (last-is, e) (step-on child s 0 x (reverse (take left word)) (lows met₀ whole₀) w (as-chains 0 x ∙ root-some t.heads x byte w to d)))
 
-  module _ {word : List ℕ} {s : ℕ} {end : Lows} {met whole : List ℕ} {node left : ℕ} (i : Walking label first next count word s end (lows met whole) node left) where
+  module _ {word : List ℕ} {s : ℕ} {end : Lows} {met whole : List ℕ} {node left : ℕ} (i : Walking tree count word s end (lows met whole) node left) where
     pub walk-done : left ≡ 0 → (whole' : List ℕ) → whole' ≡ lowered whole node s → lows met whole' ≡ end
     walk-done e whole' q = rw q (rw e at i.rest)
 
-    module _ (h : left ≡ 0 → ⊥) (x : ℕ) (is : x ≡ get_or word (left - 1) 0) (k : Child) (found : child_of k ≡ child node x) where
+    module _ (h : left ≡ 0 → ⊥) (x : ℕ) (is : x ≡ get_or word (left - 1) 0) (k : Found ℕ) (found : option_of k ≡ child node x) where
       last : reverse (take left word) ≡ x ∷ reverse (take (left - 1) word)
       last = rw is (last-left word left (omega arith) i.within)
 
-      pub walk-stops : k ≡ Absent → lows met whole ≡ end
-      walk-stops e = sym (step-none child s node x (reverse (take (left - 1) word)) (lows met whole) (sym found ∙ ap child_of e)) ∙ rw last at i.rest
+      pub walk-stops : k ≡ None → lows met whole ≡ end
+      walk-stops e = sym (step-none child s node x (reverse (take (left - 1) word)) (lows met whole) (sym found ∙ ap option_of e)) ∙ rw last at i.rest
 
-      module _ (v : ℕ) (e : k ≡ At v) where
+      module _ (v : ℕ) (e : k ≡ Some v) where
         pub walk-child : v < count
-        walk-child = t.below node x v i.held (sym found ∙ ap child_of e)
+        walk-child = t.below node x v i.held (sym found ∙ ap option_of e)
 
-        pub walk-on : (met' : List ℕ) → met' ≡ lowered met v s → Walking label first next count word s end (lows met' whole) v (left - 1)
+        pub walk-on : (met' : List ℕ) → met' ≡ lowered met v s → Walking tree count word s end (lows met' whole) v (left - 1)
         walk-on met' q = record {
           held = walk-child;
           within = omega (arith, i.within);
-          rest = rw q (sym (step-on child s node x (reverse (take (left - 1) word)) (lows met whole) v (sym found ∙ ap child_of e)) ∙ rw last at i.rest);
+          rest = rw q (sym (step-on child s node x (reverse (take (left - 1) word)) (lows met whole) v (sym found ∙ ap option_of e)) ∙ rw last at i.rest);
         }

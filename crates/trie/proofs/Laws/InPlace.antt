@@ -1,5 +1,5 @@
 -- Insertion in place, byte by byte: what a byte does to lent tables, and that the bytes follow one another.
-use Rattle.std.specs.Prelude.{ℕ, ◌+◌, ◌≤◌, ◌<◌, ◌≡◌, take, set}
+use Rattle.std.specs.Prelude.{ℕ, ◌+◌, ◌≤◌, ◌<◌, ◌≡◌, Ok, Err, take, set}
 use Rattle.std.proofs.Common.{arith, ◌∙◌, eq-eqb, ne_eqb, get_or-take}
 use Rattle.std.proofs.Math.Path.{refl, ap, sym}
 use mathlib.Core.List.{List, [], ◌∷◌, ◌++◌}
@@ -13,7 +13,6 @@ use Rattle.tables.specs.Walks.{child_by}
 use Rattle.trie.specs.Answers.{tables}
 use Rattle.trie.specs.Chain.{walked}
 use Rattle.trie.specs.InPlace.{Room, Ready, put_first, put_behind, put_child, cut, placed, Kept}
-use Rattle.trie.specs.declared.chain.Way.TheVariants.{Found, Ends}
 use Rattle.tables.specs.Inserted.{last_of, Grown, with_child, inserted}
 use Rattle.tables.specs.Shape.{head, Shape}
 use Rattle.tables.proofs.Laws.Shape.{alike, last_found}
@@ -71,12 +70,12 @@ module _ (t : Tables) (n v x : ℕ) (r : Ready t n v 1) where
   find-is : find_of u v x ≡ child_by u n v x
   find-is = ap (λ m. child_by u m v x) z.parents
 
-  pub step-found : (at w : ℕ) → at ≡ head t v → Found w ≡ walked t.label t.next x n 0 at
+  pub step-found : (at w : ℕ) → at ≡ head t v → Ok w ≡ walked t.label t.next x n 0 at
       → record { tables = t; count = n; node = w } ≡ placed t n v (x ∷ [])
   unfolding placed
   step-found at w e f =
       let q : inserted u v (x ∷ []) ≡ record { tables = u; node = w }
-      = ap (after u v x []) (find-is ∙ sym (walked-child u x n v (head u v) (Found w) refl (f ∙ walk_same at e))) in
+      = ap (after u v x []) (find-is ∙ sym (walked-child u x n v (head u v) (Ok w) refl (f ∙ walk_same at e))) in
       sym (rw (q, written-cut t n here, z.parents))
 
   -- the new child is the first of v's children, or comes behind the last of them
@@ -102,10 +101,10 @@ module _ (t : Tables) (n v x : ℕ) (r : Ready t n v 1) where
       put _ _ (rw y (over-push n 0 t.first (omega (arith, r.room.firsts))))
       (rw (y, z.parents, ← l) (over-change n 0 last n t.next (omega (arith, r.room.nexts)) h))
 
-  put-child : (last : ℕ) → Ends last ≡ walked u.label u.next x n 0 (head u v)
+  put-child : (last : ℕ) → Err last ≡ walked u.label u.next x n 0 (head u v)
       → (last < n) × (put_child t n v last x ≡ written w t)
   put-child last f = split (head u v) 0
-      (λ e. let q : Ends last ≡ Ends 0 = f ∙ walked_end u.label u.next x n 0 (head u v) e in
+      (λ e. let q : Err last ≡ Err 0 = f ∙ walked_end u.label u.next x n 0 (head u v) e in
       let l : last ≡ 0 = cc in
       (omega (arith, r.inside), sym (put_first_lem e ∙ put-as-first t n v last x l)))
       (λ d. let k = (s.heads v r.inside).node (omega arith) in
@@ -114,13 +113,13 @@ module _ (t : Tables) (n v x : ℕ) (r : Ready t n v 1) where
       let h : last < n = omega (arith, m.below) in
       (h, sym (put-behind d last l h ∙ put-as-last t n v last x (λ q. omega (arith, m.above)))))
 
-  pub step-ends : (at last : ℕ) → at ≡ head t v → Ends last ≡ walked t.label t.next x n 0 at
+  pub step-ends : (at last : ℕ) → at ≡ head t v → Err last ≡ walked t.label t.next x n 0 at
       → (last < n) × (record { tables = put_child t n v last x; count = n + 1; node = n } ≡ placed t n v (x ∷ []))
   unfolding placed
   step-ends at last e f =
-      let g : Ends last ≡ walked u.label u.next x n 0 (head u v) = f ∙ walk_same at e in
+      let g : Err last ≡ walked u.label u.next x n 0 (head u v) = f ∙ walk_same at e in
       let q : inserted u v (x ∷ []) ≡ with_child u v x
-      = ap (after u v x []) (find-is ∙ sym (walked-child u x n v (head u v) (Ends last) refl g)) in
+      = ap (after u v x []) (find-is ∙ sym (walked-child u x n v (head u v) (Err last) refl g)) in
       let p = put-child last g in
       let m : length (take n t.parent ++ (v ∷ [])) ≡ n + 1 = length-append (take n t.parent) (v ∷ []) ∙ omega (arith, z.parents) in
       (p.0, sym (rw (q, ← p.1, m, z.parents)))

@@ -1,5 +1,5 @@
 -- The test of tables, node by node: how deep a node lies, and what the nodes that passed say of the next.
-use Rattle.std.specs.Prelude.{ℕ, zero, suc, ◌+◌, ◌-◌, ◌≤◌, ◌<◌, ◌≡◌, refl, true, false, List, [], ◌∷◌, eqb, length}
+use Rattle.std.specs.Prelude.{ℕ, zero, suc, ◌+◌, ◌-◌, ◌≤◌, ◌<◌, ◌≡◌, refl, true, false, [], ◌∷◌, eqb, length}
 use Rattle.std.proofs.Common.{arith, ap, sym, ◌∙◌, eqb-true, eq-eqb, ne_eqb, lt-ltb, le-ltb, le-leb}
 use Rattle.std.proofs.Math.Option.{some, none}
 use Rattle.std.proofs.lemmas.Bool.{lt-leb}
@@ -8,7 +8,7 @@ use Rattle.tables.specs.Tables.{Tables, shortest_table}
 use Rattle.tables.specs.Walks.{climb, depth}
 use Rattle.tables.specs.Broken.{max_depth, max_number, links, shifts, sound, first_break, broken}
 use Rattle.tables.specs.Shape.{up, tag, sib, Falling, num}
-use Rattle.trie.specs.Answers.{tables, tree_only, own_sound}
+use Rattle.trie.specs.Answers.{own_sound}
 use Rattle.trie.specs.NodeByNode.{Chained, Chain}
 use Rattle.tables.proofs.Laws.Shape.{way_step}
 
@@ -43,20 +43,6 @@ climb-on t v at steps a s k h e =
     let q = depth-up t at a (falling-below t (v + 1) (at + 1) s (omega arith) (omega (arith, k.below))) h e in
     (q.0, omega (arith, k.climbed, q.1, depth_le t v), record { below = omega (arith, k.below, q.0); climbed = omega (arith, k.climbed, q.1) })
 
--- parents alone say how deep a node lies
-module _ (parent label token first next shift : List ℕ) where
-  climb-bare : (fuel v : ℕ) → length (climb (tables parent label token first next shift) fuel v) ≡ length (climb (tree_only parent [] [] [] []) fuel v)
-  climb-bare zero v = refl
-  climb-bare (suc fuel) v = let t = tree_only parent [] [] [] [] in split v 0
-      (λ e. cc (eq-eqb v 0 e))
-      (λ e. cc (ne_eqb v 0 e, climb-bare fuel (up t v)))
-
-  pub depth-bare : (v : ℕ) → depth (tables parent label token first next shift) v ≡ depth (tree_only parent [] [] [] []) v
-  depth-bare v = climb-bare v v
-
-  pub falling-bare : (n : ℕ) → Falling (tables parent label token first next shift) n → Falling (tree_only parent [] [] [] []) n
-  falling-bare n s = record { size = s.size; root-up = s.root-up; ups = s.ups }
-
 pub chain-none : (t : Tables) (count v : ℕ) → Chain t count v v
 chain-none t count v = record { upward = omega arith; each = λ k a b. absurd (omega arith) }
 
@@ -65,14 +51,6 @@ chain_more t count v w c l = record {
   upward = omega (arith, c.upward);
   each = λ k a b. below_suc k w (omega arith) (λ h. c.each k a h) (λ e. rw e l);
 }
-
--- Past the root, labels say nothing.
-module _ (parent label token first next shift : List ℕ) where
-  pub break-bare : (count fuel v : ℕ) → 0 < v
-      → first_break (tables parent label token first next shift) count fuel v ≡ first_break (tables parent [] token first next shift) count fuel v
-  break-bare count zero v h = refl
-  break-bare count (suc fuel) v h =
-      cc (ne_eqb v 0 (λ e. omega arith), depth-bare parent label token first next shift v, depth-bare parent [] token first next shift v, break-bare count fuel (v + 1) (omega arith))
 
 -- the nodes from the root to before v passed, and `deep` is the depth of the last of them
 pub record Passing (t : Tables) (count v deep : ℕ) : Type 0 where

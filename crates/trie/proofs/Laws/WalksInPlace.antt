@@ -1,22 +1,23 @@
 -- The walks of a word at its shifts, of the words of a body, and of those of a book, record by record.
-use Rattle.std.specs.Prelude.{ℕ, zero, suc, ◌+◌, ◌-◌, ◌≤◌, ◌<◌, ◌≡◌, refl, true, false, List, [], ◌∷◌, ◌++◌, reverse, length, get_or, take, drop}
+use Rattle.std.specs.Prelude.{ℕ, zero, suc, ◌+◌, ◌-◌, ◌≤◌, ◌<◌, ◌≡◌, refl, true, false, List, [], ◌∷◌, ◌++◌, reverse, length, get_or}
 use Rattle.std.proofs.Common.{arith, ap, sym, ◌∙◌}
 use Rattle.std.proofs.Math.Option.{Option}
+use Rattle.std.proofs.lemmas.List.{get_or_default}
 use Rattle.rules.specs.Words.{has_reverse, words_of, all_words}
 use Rattle.rules.specs.Tokens.{shortened}
 use Rattle.rules.proofs.Laws.Words.{words-both, words-own, words_snoc}
 use Rattle.rules.proofs.Laws.Lengths.{shortest-le}
-use Rattle.book.specs.Book.{read_book, accepted, whole_at}
+use Rattle.book.specs.Book.{read_book, accepted, bodies_in}
 use Rattle.book.proofs.Laws.Accepted.{accepted-shortest}
-use Rattle.book.proofs.Laws.Records.{Passing, passing-none, passing-more, passing-all, passing-last}
+use Rattle.book.proofs.Laws.Bodies.{accepted-bodies}
+use Rattle.tables.specs.Tables.{Tables}
 use Rattle.tables.specs.Walks.{child_by}
-use Rattle.trie.specs.Answers.{tree_only}
 use Rattle.trie.specs.Filling.{Lows, lows, walked_at, word_walked, words_walked, Walkable, head_at, NextMet, Shortest}
 use Rattle.trie.proofs.Laws.FillingInPlace.{walk-still}
 
 -- Lists of the same lengths serve as well.
-pub walkable-same : {label first next : List ℕ} {count : ℕ} {kids met whole : List ℕ} → Walkable label first next count kids met whole
-    → (met' whole' : List ℕ) → length met' ≡ length met → length whole' ≡ length whole → Walkable label first next count kids met' whole'
+pub walkable-same : {tree : Tables} {count : ℕ} {kids met whole : List ℕ} → Walkable tree count kids met whole
+    → (met' whole' : List ℕ) → length met' ≡ length met → length whole' ≡ length whole → Walkable tree count kids met' whole'
 walkable-same t met' whole' m w = record {
   some-node = t.some-node;
   below = t.below;
@@ -26,16 +27,16 @@ walkable-same t met' whole' m w = record {
 }
 
 -- A word's walks from s on are still to come.
-pub record Shifting (label first next : List ℕ) (count : ℕ) (kids word : List ℕ) (S : ℕ) (l₀ : Lows) (met whole : List ℕ) (s : ℕ) : Type 0 where
-  pub walks : Walkable label first next count kids met whole
+pub record Shifting (tree : Tables) (count : ℕ) (kids word : List ℕ) (S : ℕ) (l₀ : Lows) (met whole : List ℕ) (s : ℕ) : Type 0 where
+  pub walks : Walkable tree count kids met whole
   pub upto : s ≤ S
-  pub rest : word_walked (child_by (tree_only [] label [] first next) count) word s (S - s) (lows met whole)
-      ≡ word_walked (child_by (tree_only [] label [] first next) count) word 1 (S - 1) l₀
+  pub rest : word_walked (child_by tree count) word s (S - s) (lows met whole)
+      ≡ word_walked (child_by tree count) word 1 (S - 1) l₀
 
-module _ {label first next : List ℕ} {count : ℕ} {kids word : List ℕ} {S : ℕ} {l₀ : Lows} {met whole : List ℕ} {s : ℕ}
-    (i : Shifting label first next count kids word S l₀ met whole s) where
+module _ {tree : Tables} {count : ℕ} {kids word : List ℕ} {S : ℕ} {l₀ : Lows} {met whole : List ℕ} {s : ℕ}
+    (i : Shifting tree count kids word S l₀ met whole s) where
   abbrev child : ℕ → ℕ → Option ℕ
-  child = child_by (tree_only [] label [] first next) count
+  child = child_by tree count
 
   pub shifting-end : S ≤ s → lows met whole ≡ word_walked child word 1 (S - 1) l₀
   shifting-end h = let z : S - s ≡ 0 = omega arith in rw z at i.rest
@@ -64,7 +65,7 @@ module _ {label first next : List ℕ} {count : ℕ} {kids word : List ℕ} {S :
 
       pub shifting-on : r < S → (met' whole' : List ℕ) → lows met' whole' ≡ walked_at child r (reverse (shortened word r)) 0 (lows met whole)
           → length met' ≡ length met → length whole' ≡ length whole
-          → Shifting label first next count kids word S l₀ met' whole' (r + 1)
+          → Shifting tree count kids word S l₀ met' whole' (r + 1)
       shifting-on h met' whole' e f g =
           let z : S - r ≡ suc (S - (r + 1)) = omega arith in
           record {
@@ -86,51 +87,40 @@ words_append : (child : ℕ → ℕ → Option ℕ) (S : ℕ) (us vs : List (Lis
 words_append child S [] vs l = refl
 words_append child S (u ∷ us) vs l = words_append child S us vs (word_walked child u 1 (S - 1) l)
 
--- The words of the tokens up to place `at` are walked.
-pub record Walked (label first next : List ℕ) (count : ℕ) (kids book : List ℕ) (S : ℕ) (l₀ : Lows) (met whole : List ℕ) (at : ℕ) : Type 0 where
-  pub walks : Walkable label first next count kids met whole
+-- The words of the bodies `done` are walked.
+pub record Walked (tree : Tables) (count : ℕ) (kids book : List ℕ) (S : ℕ) (l₀ : Lows) (met whole : List ℕ) (done : List (List ℕ)) : Type 0 where
+  pub walks : Walkable tree count kids met whole
   pub given : Shortest book S
-  pub done : List (List ℕ)
-  pub passing : Passing book given.tokens at done
-  pub walked : lows met whole ≡ words_walked (child_by (tree_only [] label [] first next) count) S (all_words done) l₀
+  pub walked : lows met whole ≡ words_walked (child_by tree count) S (all_words done) l₀
 
-pub walked_none : {label first next : List ℕ} {count : ℕ} {kids met whole : List ℕ} → Walkable label first next count kids met whole
-    → {book : List ℕ} {S : ℕ} → Shortest book S → Walked label first next count kids book S (lows met whole) met whole 0
-walked_none t {book} g = record { walks = t; given = g; done = []; passing = passing-none book g.tokens g.read; walked = refl }
+pub walked_none : {tree : Tables} {count : ℕ} {kids met whole : List ℕ} → Walkable tree count kids met whole
+    → {book : List ℕ} {S : ℕ} → Shortest book S → Walked tree count kids book S (lows met whole) met whole []
+walked_none t g = record { walks = t; given = g; walked = refl }
 
-module _ {label first next : List ℕ} {count : ℕ} {kids book : List ℕ} {S : ℕ} {l₀ : Lows} {met whole : List ℕ} {at : ℕ}
-    (i : Walked label first next count kids book S l₀ met whole at) where
-  -- The record at `at` is next, with n body bytes; `part` is its body as the code cuts it out.
-  module _ (h : at + 1 < length book) (n : ℕ) (w : n ≡ whole_at book at) where
-    abbrev part : List ℕ
-    part = take (at + 1 + n - (at + 1)) (drop (at + 1) book)
+module _ {tree : Tables} {count : ℕ} {kids book : List ℕ} {S : ℕ} {l₀ : Lows} {met whole : List ℕ} {done : List (List ℕ)}
+    (i : Walked tree count kids book S l₀ met whole done) where
+  tokens : bodies_in book ≡ i.given.tokens
+  tokens = accepted-bodies book i.given.tokens i.given.read
 
-    passed : Passing book i.given.tokens (at + 1 + n) (i.done ++ (part ∷ []))
-    passed = passing-more i.passing h n w
+  -- A body of the book is at least S long.
+  pub walked-short : (n : ℕ) (part other : List ℕ) → (n < length (bodies_in book)) × (part ≡ get_or (bodies_in book) n other) → (1 ≤ S) × (S ≤ length part) × (S < 65536)
+  walked-short n part other h =
+      let inside : n < length i.given.tokens = rw tokens at h.0 in
+      let same : part ≡ get_or i.given.tokens n [] = h.1 ∙ ap (λ ts. get_or ts n other) tokens ∙ get_or_default i.given.tokens n other [] inside in
+      omega (arith, i.given.short, accepted-shortest book i.given.tokens i.given.read, shortest-le i.given.tokens n inside, ap length same)
 
-    pub walked-short : (1 ≤ S) × (S ≤ length part) × (S < 65536)
-    walked-short =
-        let tokens = i.given.tokens in
-        let l = passing-last book tokens (at + 1 + n) i.done part passed in
-        omega (arith, i.given.short, accepted-shortest book tokens i.given.read, shortest-le tokens (length i.done) l.0, ap length l.1)
-
-    pub walked_on : (met' whole' : List ℕ) → lows met' whole' ≡ words_walked (child_by (tree_only [] label [] first next) count) S (words_of part) (lows met whole)
-        → length met' ≡ length met → length whole' ≡ length whole → Walked label first next count kids book S l₀ met' whole' (at + 1 + n)
-    walked_on met' whole' e f g =
-        let child = child_by (tree_only [] label [] first next) count in
-        record {
-          walks = walkable-same i.walks met' whole' f g;
-          given = i.given;
-          done = i.done ++ (part ∷ []);
-          passing = passed;
-          walked = e ∙ ap (words_walked child S (words_of part)) i.walked ∙ sym (words_append child S (all_words i.done) (words_of part) l₀)
-              ∙ ap (λ ws. words_walked child S ws l₀) (sym (words_snoc i.done part));
-        }
+  pub walked_on : (part met' whole' : List ℕ) → lows met' whole' ≡ words_walked (child_by tree count) S (words_of part) (lows met whole)
+      → length met' ≡ length met → length whole' ≡ length whole → Walked tree count kids book S l₀ met' whole' (done ++ (part ∷ []))
+  walked_on part met' whole' e f g =
+      let child = child_by tree count in
+      record {
+        walks = walkable-same i.walks met' whole' f g;
+        given = i.given;
+        walked = e ∙ ap (words_walked child S (words_of part)) i.walked ∙ sym (words_append child S (all_words done) (words_of part) l₀)
+            ∙ ap (λ ws. words_walked child S ws l₀) (sym (words_snoc done part));
+      }
 
   -- All are.
-  pub walked_all : length book ≤ at + 1 → (ts : List (List ℕ)) → read_book book ≡ accepted ts
-      → lows met whole ≡ words_walked (child_by (tree_only [] label [] first next) count) S (all_words ts) l₀
-  walked_all h ts e =
-      let q : accepted i.given.tokens ≡ accepted ts = sym i.given.read ∙ e in
-      let z : i.given.tokens ≡ ts = cc in
-      i.walked ∙ ap (λ ts. words_walked (child_by (tree_only [] label [] first next) count) S (all_words ts) l₀) (passing-all i.passing h ∙ z)
+  pub walked_all : done ≡ bodies_in book → (ts : List (List ℕ)) → read_book book ≡ accepted ts
+      → lows met whole ≡ words_walked (child_by tree count) S (all_words ts) l₀
+  walked_all h ts e = i.walked ∙ ap (λ ts. words_walked (child_by tree count) S (all_words ts) l₀) (h ∙ accepted-bodies book ts e)

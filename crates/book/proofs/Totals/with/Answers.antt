@@ -4,10 +4,8 @@ use native.Mathlib.Omega.{arith}
 use mathlib.Core.Path.{◌≡◌, refl}
 use mathlib.Core.List.{List, [], ◌∷◌, ◌++◌}
 use lib.ListN.{length, length-append}
-use Rattle.rules.specs.Words.{words_of}
-use Rattle.rules.specs.Tokens.{total, shortest_of, longest_of}
+use Rattle.rules.specs.Tokens.{shortest_of, longest_of}
 use Rattle.rules.proofs.Laws.Words.{bytes-snoc}
-use Rattle.book.specs.Answers.{Amounts}
 use Rattle.book.proofs.Totals.with.Goals as goal
 
 shortest-snoc : (ts : List (List ℕ)) (t : List ℕ) → 1 ≤ length ts → shortest_of (ts ++ (t ∷ [])) ≡ min (shortest_of ts) (length t)
@@ -18,14 +16,6 @@ shortest-snoc (u ∷ v ∷ ts) t h = omega (arith, shortest-snoc (v ∷ ts) t (o
 longest-snoc : (ts : List (List ℕ)) (t : List ℕ) → longest_of (ts ++ (t ∷ [])) ≡ max (longest_of ts) (length t)
 longest-snoc [] t = omega arith
 longest-snoc (u ∷ ts) t = omega (arith, longest-snoc ts t)
-
-first : (ts : List (List ℕ)) (t : List ℕ) (n m : ℕ) → length ts ≡ 0 → n ≡ length t → m ≡ total (words_of t)
-    → Amounts (record { tokens = 1; bodies = m; shortest = n; longest = n }) (ts ++ (t ∷ []))
-first [] t n m z e f = omega (arith, bytes-snoc [] t)
-first (u ∷ ts) t n m z e f = absurd (omega arith)
-
-pub returns-then-self-eq0 : goal.returns-then-self-eq0
-returns-then-self-eq0 c = λ ts t a e f. first ts t c.args.size c.args.bytes (omega arith) e f
 
 pub returns : goal.returns
 returns c = λ ts t a e f.

@@ -1,11 +1,11 @@
 use borrow.Author.Rules.{rules}
-use Prim.Native.Nat.{ℕ, suc, ◌+◌, ◌-◌, ◌*◌, ◌/◌, ◌%◌, ◌<◌, min}
+use Prim.Native.Nat.{ℕ, suc, ◌+◌, ◌-◌, ◌*◌, ◌%◌, ◌<◌}
 use native.Mathlib.Omega.{arith}
-use native.Mathlib.Nat.{mod-lt, sub-zero}
+use native.Mathlib.Nat.{mod-lt}
 use mathlib.Core.List.{List}
 use mathlib.Core.Path.{◌≡◌, ap, sym, ◌∙◌}
 use lib.ListN.{length, get_or}
-use Rattle.book.specs.Filter.{marks, near, hash_from}
+use Rattle.book.specs.Filter.{marks, hash_from}
 use Rattle.book.proofs.filter.hash.Goals as goal
 
 -- One pair more.
@@ -13,26 +13,13 @@ onwards : (body : List ℕ) (pairs i sum : ℕ) → i < pairs → hash_from body
     ≡ hash_from body (pairs - (i + 1)) (i + 1) ((37 * sum + get_or body i 0 + get_or body (length body - 1 - i) 0) % marks)
 onwards body pairs i sum h = let z : pairs - i ≡ suc (pairs - (i + 1)) = omega arith in ap (λ k. hash_from body k i sum) z
 
-pub loop-i-init : goal.loop-i-init
-loop-i-init c =
-    let body = c.args.body.now in
-    let e : c.less-pairs.result ≡ min near (length body - length body / 2) = c.less-pairs.ensures in
-    (omega arith, omega (arith, e), mod-lt _ (omega arith), rw sub-zero (ap (λ k. hash_from body k 0 (length body % marks)) e))
-
 pub loop-i-preserved : goal.loop-i-preserved
 loop-i-preserved c =
     let l = c.loop-i in
     let body = c.args.body.now in
-    let pairs = c.less-pairs.result in (
+    let pairs = c.min-pairs.result in (
       search rules,
       l.invariant.1,
       mod-lt _ (omega arith),
-      rw (c.wide.ensures.0, c.wide-in-loop-i.ensures.0) (sym (onwards body pairs l.i l.sum (omega arith)) ∙ l.invariant.3),
+      rw (c.from.ensures, c.from-in-loop-i.ensures) (sym (onwards body pairs l.i l.sum (omega arith)) ∙ l.invariant.3),
     )
-
-pub returns : goal.returns
-returns c =
-    let l = c.loop-i in
-    let body = c.args.body.now in
-    let z : c.less-pairs.result - l.i ≡ 0 = omega arith in
-    (ap (λ k. hash_from body k l.i l.sum) (sym z) ∙ l.invariant.3, l.invariant.2)

@@ -8,6 +8,3 @@ use Rattle.book.proofs.filter.hash.Given as goal
 abbrev pub invariant-loop-i : goal.invariant-loop-i
 invariant-loop-i l =
     (l.i ≤ l.pairs) × (l.pairs ≤ length l.body) × (l.sum < marks) × (hash_from l.body (l.pairs - l.i) l.i l.sum ≡ hash l.body)
-
-abbrev pub decreases-loop-i : goal.decreases-loop-i
-decreases-loop-i l = l.pairs - l.i

@@ -1,11 +1,11 @@
 use Prim.Native.Nat.{◌+◌, ◌-◌, ◌^◌, ◌≤◌}
 use native.Mathlib.Omega.{arith}
 use mathlib.Core.Path.{refl, sym, ◌∙◌}
-use Rattle.image.specs.Spans.{spans_of}
+use borrow.Author.Rules.{rules}
 use Rattle.image.specs.Sweeping.{Standing}
-use Rattle.image.proofs.Laws.Turn.{Turned, ended-numbers, ended-fits, ended-few, ended-loose, turned, turned-bare, spans-as, turned_as}
+use Rattle.image.proofs.Laws.Turn.{Turned, ended-numbers, ended-fits, ended-few, ended-loose, turned, turned-bare, turned_as}
 use Rattle.image.proofs.Laws.TurnAttempt.{tables-walk, round-place, round-goes}
-use Rattle.image.proofs.Laws.Rounds.{Rounding, rounding-begins, followed-none, known, rounding-small, rounding-skimmable, rounding-skims, rounding-begun, rounding-again, rounding-done}
+use Rattle.image.proofs.Laws.Rounds.{RoundingIn, caches-none, rounding-begins, followed-none, known, rounding-small, rounding-skimmable, rounding-skims, rounding-begun, rounding-again, rounding-done}
 use Rattle.image.proofs.rounds.rounds.Goals.{After-attempt-a, After-loose-loose, Joined-forgets, then-forgets, else-forgets}
 use Rattle.image.proofs.rounds.rounds.Goals as goal
 
@@ -27,15 +27,15 @@ fresh c =
 abbrev here : Joined-forgets → Standing
 here j =
     let l = j.loop-b in
-    record { boundary = l.b; spans = spans_of l.lefts l.rights l.used; fetched = l.fetched; spared = l.spared; hits = l.hits }
+    record { boundary = l.b; spans = l.spans; fetched = l.fetched; spared = l.spared; hits = l.found }
 
 abbrev after : Joined-forgets → Standing
 after j =
     let s = j.if-forgets in
     let a = j.attempt-a.result in
-    record { boundary = j.loop-b.b + a.by; spans = spans_of s.lefts s.rights s.used; fetched = s.fetched; spared = s.spared; hits = a.hits }
+    record { boundary = j.loop-b.b + a.by; spans = s.spans; fetched = s.fetched; spared = s.spared; hits = a.hits }
 
-next : (j : Joined-forgets) → Turned j.args.book.now j.args.image.now (here j) (after j) j.attempt-a.result.hits
+next : (j : Joined-forgets) → Turned j.args.sweep.now.book.now j.args.sweep.now.image.now (here j) (after j) j.attempt-a.result.hits
 next j =
     let k = known j.loop-b.invariant.0 in
     let h = j.loop-b-test.true in
@@ -44,18 +44,17 @@ next j =
     let hits = j.attempt-a.result.hits in
     elim j.if-forgets.branch [
       | then-forgets r ↦
-          turned_as (spans-as r.lefts-is r.rights-is r.used-is) r.fetched-is r.spared-is
+          turned_as r.spans-is r.fetched-is r.spared-is
           (turned-bare k h w e hits (sym j.forgets.ensures ∙ r.if-forgets.true))
       | else-forgets r ↦
-          let u = r.remember-used in
-          turned_as (spans-as r.lefts-is r.rights-is r.used-is) r.fetched-is r.spared-is
-          (turned k h w e (spans_of u.new.lefts u.new.rights u.result) r.loose-loose.result hits u.ensures r.loose-loose.ensures)
+          turned_as r.spans-is r.fetched-is r.spared-is
+          (turned k h w e r.remember.new.self r.loose-loose.result hits r.remember.ensures r.loose-loose.ensures)
     ]
 
 -- What then holds there: the buffers have what was found, and the caches are right.
 again : (j : Joined-forgets) → let a = j.args in
     let n = j.attempt-a.new in
-    Rounding a.book.now a.image.now a.shortest a.ends.now a.tokens.now n.ends n.tokens n.bytes n.skip n.pairs (after j)
+    RoundingIn a.sweep.now a.hits.now n.hits n.caches (after j)
 again j =
     let i = j.loop-b.invariant in
     let f = j.attempt-a.ensures in
@@ -64,17 +63,17 @@ again j =
 pub loop-b-init : goal.loop-b-init
 loop-b-init c =
     let p = c.requires in (
-      rounding-begins c.args.ends.now c.args.tokens.now p.given p.caches refl (refl, refl) (refl, refl, refl),
-      p.room,
-      p.stretches,
-      followed-none p.powers c.none-runs.ensures,
+      rounding-begins c.args.hits.now.ends.now c.args.hits.now.tokens.now p.given (caches-none c.args.sweep.now c.none-caches.ensures) refl
+          c.none-spans.ensures (refl, refl, refl),
+      followed-none c.args.sweep.now.image.now (tables-walk p.given).some-node c.none-runs.ensures,
+      (refl, refl),
     )
 
-pub follow-runs-requires : goal.follow-runs-requires
-follow-runs-requires c =
+pub follow-requires : goal.follow-requires
+follow-requires c =
     let g = c.requires.given in
     let i = c.loop-b.invariant in
-    record { place = round-place g (known i.0) c.loop-b-test.true; tables = tables-walk g; before = i.3 }
+    record { place = round-place g (known i.0) c.loop-b-test.true; tables = tables-walk g; before = i.1 }
 
 pub attempt-a-requires : goal.attempt-a-requires
 attempt-a-requires c =
@@ -84,9 +83,8 @@ attempt-a-requires c =
       given = p.given;
       begun = rounding-begun i.0 c.loop-b-test.true;
       kids = p.kids;
-      followed = c.follow-runs.ensures;
-      room = i.1;
-      caches = i.0.caches;
+      followed = c.follow.ensures;
+      caches = i.0.right;
     }
 
 pub forgets-requires : goal.forgets-requires
@@ -103,7 +101,6 @@ loose-loose-requires c =
     let n = numbers (goal.at.loose-loose-requires c).After-attempt-a in
     let i = c.loop-b.invariant in
     record {
-      room = i.2;
       fits = ended-fits (known i.0) c.loop-b-test.true c.requires.given.within c.attempt-a.ensures.ended;
       numbers = (n.1, omega (arith, n));
     }
@@ -127,15 +124,14 @@ overflow_sub-b c = omega (arith, numbers (goal.at.overflow_sub-b c).After-attemp
 pub overflow_add-b : goal.overflow_add-b
 overflow_add-b c = omega (arith, numbers (goal.at.overflow_add-b c).After-attempt-a)
 
-pub remember-used-requires : goal.remember-used-requires
-remember-used-requires c =
-    let n = numbers (goal.at.remember-used-requires c).After-attempt-a in
+pub remember-requires : goal.remember-requires
+remember-requires c =
+    let n = numbers (goal.at.remember-requires c).After-attempt-a in
     let i = c.loop-b.invariant in
     let h = c.loop-b-test.true in
     let w = c.requires.given.within in
     let e = c.attempt-a.ensures.ended in
     record {
-      room = i.2;
       fits = ended-fits (known i.0) h w e;
       numbers = (omega arith, omega arith, omega (arith, n));
       few = ended-few (known i.0) h w e;
@@ -159,15 +155,13 @@ loop-b-smaller c =
 
 pub loop-b-preserved : goal.loop-b-preserved
 loop-b-preserved c =
-    let i = c.loop-b.invariant in
-    let five = c.if-forgets.auto in (
+    let i = c.loop-b.invariant in (
       rounding-skims (again (goal.at.loop-b-preserved c).Joined-forgets) c.requires.given c.ahead-on.ensures.leads,
-      c.attempt-a.auto.kept ∙ i.1,
-      (five.lefts ∙ i.2.0, five.rights ∙ i.2.1),
-      c.follow-runs.ensures,
+      c.follow.ensures,
+      search rules,
     )
 
 pub returns : goal.returns
 returns c =
     let d = rounding-done c.loop-b.invariant.0 c.loop-b-test.false in
-    record { hits = d.0; fetched = d.1; spared = d.2; ends = d.3; tokens = d.4 }
+    record { hits = d.0; fetched = d.1; spared = d.2; ends = d.3; tokens = d.4; lent = search rules }

@@ -4,14 +4,8 @@ use mathlib.Core.Path.{refl, sym, ◌∙◌}
 use lib.Seq.{length-take-le}
 use Rattle.rules.proofs.Laws.Words.{turned-bytes}
 use Rattle.agree.specs.Tests.{byte_test}
-use Rattle.image.proofs.Laws.Rule5.{one_word, two-words, reverse-size, reverse-front}
+use Rattle.image.proofs.Laws.Rule5.{two-words, reverse-size, reverse-front}
 use Rattle.image.proofs.rule5.byte_words.Goals as goal
-
-pub returns-then-not-has_reverse : goal.returns-then-not-has_reverse
-returns-then-not-has_reverse c =
-    let a = c.args in
-    one_word (byte_test a.depth a.x) a.body.now c.requires c.byte_least-own.ensures
-    (sym c.has_reverse.ensures ∙ c.if-not-has_reverse.true)
 
 pub reverse_into-requires : goal.reverse_into-requires
 reverse_into-requires c =

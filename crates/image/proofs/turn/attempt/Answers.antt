@@ -4,20 +4,20 @@ use native.Mathlib.Omega.{arith}
 use mathlib.Core.Path.{refl, ap}
 use Rattle.image.proofs.Laws.Turn.{Arrives, arrives-deep, arrives-some, by_near, learns, sees, ended}
 use Rattle.image.proofs.Laws.TurnAttempt.{begun_at, begun-known, tables-walk, round-place, round-numbers, round-arrives, round_room, round-met}
-use Rattle.image.proofs.turn.attempt.Goals.{Start, After-descend-arrival}
+use Rattle.image.proofs.turn.attempt.Goals.{Start, After-descend-end}
 use Rattle.image.proofs.turn.attempt.Goals as goal
 
-arrives : (d : After-descend-arrival) → let a = d.args in
-    Arrives a.book.now a.image.now a.shift.now a.shortest (begun_at d.requires.begun) d.descend-arrival.result
+arrives : (d : After-descend-end) → let a = d.args in
+    Arrives a.sweep.now.book.now a.sweep.now.image.now a.sweep.now.tables.shift.now a.sweep.now.shortest (begun_at d.requires.begun) d.descend-end.result
 arrives d =
     let p = d.requires in
-    round-arrives p.given (begun-known p.begun) p.begun.inside d.descend-arrival.result d.descend-arrival.ensures.0
+    round-arrives p.given (begun-known p.begun) p.begun.inside d.descend-end.result d.descend-end.ensures.0
 
 positive : (s : Start) → 1 ≤ s.args.b
 positive s = (begun-known s.requires.begun).stands.positive
 
-pub descend-arrival-requires : goal.descend-arrival-requires
-descend-arrival-requires c =
+pub descend-end-requires : goal.descend-end-requires
+descend-end-requires c =
     let p = c.requires in
     let k = begun-known p.begun in
     record {
@@ -25,56 +25,54 @@ descend-arrival-requires c =
       tables = tables-walk p.given;
       kids = p.kids;
       followed = p.followed;
-      room = omega (arith, p.room, round_room p.given k p.begun.inside);
+      room = omega (arith, c.well_formed, round_room p.given k p.begun.inside);
     }
 
 pub shift-by-requires : goal.shift-by-requires
 shift-by-requires c =
-    let a = arrives (goal.at.shift-by-requires c).After-descend-arrival in
-    record { book = a.read; entry = (a.held, arrives-some a); right = c.requires.caches.by_byte }
+    let a = arrives (goal.at.shift-by-requires c).After-descend-end in
+    record { book = a.read; entry = (a.held, arrives-some a); right = c.requires.caches }
 
 pub learn-requires : goal.learn-requires
 learn-requires c =
-    let near = by_near (arrives (goal.at.learn-requires c).After-descend-arrival) c.shift-by.result c.shift-by.ensures.shift in
-    (near, c.requires.caches.by-skip.size)
+    let near = by_near (arrives (goal.at.learn-requires c).After-descend-end) c.shift-by.result c.shift-by.ensures.shift in
+    near
 
 pub overflow_sub-b : goal.overflow_sub-b
 overflow_sub-b c = omega (arith, positive (goal.at.overflow_sub-b c).Start)
 
-pub bounds-image-b : goal.bounds-image-b
-bounds-image-b c = omega (arith, positive (goal.at.bounds-image-b c).Start, c.requires.begun.inside)
+pub bounds-sweep-b : goal.bounds-sweep-b
+bounds-sweep-b c = omega (arith, positive (goal.at.bounds-sweep-b c).Start, c.requires.begun.inside)
 
 pub learn_pair-requires : goal.learn_pair-requires
 learn_pair-requires c =
-    let near = by_near (arrives (goal.at.learn_pair-requires c).After-descend-arrival) c.shift-by.result c.shift-by.ensures.shift in
-    (near, c.requires.caches.by-pair.size)
+    let near = by_near (arrives (goal.at.learn_pair-requires c).After-descend-end) c.shift-by.result c.shift-by.ensures.shift in
+    near
 
 pub lowest-low-requires : goal.lowest-low-requires
-lowest-low-requires c = arrives-deep (arrives (goal.at.lowest-low-requires c).After-descend-arrival)
+lowest-low-requires c = arrives-deep (arrives (goal.at.lowest-low-requires c).After-descend-end)
 
 pub mark-requires : goal.mark-requires
 mark-requires c =
     let p = c.requires in
     let k = begun-known p.begun in
-    let d = c.descend-arrival in
+    let d = c.descend-end in
     let n = round-numbers p.given k p.begun.inside in
     let deep = ap (λ r. r.depth) d.ensures.0 in
-    record { numbers = (n.0, n.1, omega (arith, d.ensures.1.1, deep, round_room p.given k p.begun.inside, p.room, d.auto.kept)) }
+    record { numbers = (n.0, n.1, omega (arith, d.ensures.1.1, deep, round_room p.given k p.begun.inside, c.well_formed, d.auto.kept)) }
 
 pub returns : goal.returns
 returns c =
-    let a = arrives (goal.at.returns c).After-descend-arrival in
+    let a = arrives (goal.at.returns c).After-descend-end in
     let p = c.requires in
-    let k = p.caches in
-    let d = c.descend-arrival in
+    let d = c.descend-end in
     let by = c.shift-by.result in
     let e = c.shift-by.ensures.shift in
     record {
       ended = ended a by e c.lowest-low.result c.mark.result c.lowest-low.ensures;
-      hits = round-met p.given (begun-known p.begun) p.begun.inside d.result d.ensures.0 d.new.kept d.ensures.1.0 c.mark.ensures;
-      caches = record {
-        by_byte = c.shift-by.ensures.right;
-        by-skip = c.learn.ensures c.args.book.now c.args.shortest (learns a by e) k.by-skip;
-        by-pair = c.learn_pair.ensures c.args.book.now c.args.image.now (sees a by e _ refl) k.by-pair;
-      };
+      hits = round-met p.given (begun-known p.begun) p.begun.inside d.result d.ensures.0 d.new.kept d.ensures.1.0 c.mark.ensures.noted;
+      caches = c.learn_pair.ensures c.args.sweep.now.book.now c.args.sweep.now.image.now c.args.sweep.now.shortest (sees a by e _ refl)
+          (c.learn.ensures c.args.sweep.now.book.now c.args.sweep.now.image.now c.args.sweep.now.shortest (learns a by e)
+          c.shift-by.ensures.right);
+      lent = c.mark.ensures.lent;
     }

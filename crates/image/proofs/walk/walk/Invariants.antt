@@ -2,12 +2,12 @@
 use Prim.Native.Nat.{◌-◌}
 use mathlib.Core.Path.{◌≡◌}
 use lib.ListN.{length}
-use Rattle.image.specs.Walk.{Walkable, Descending}
+use Rattle.image.specs.Walk.{WalkableIn, DescendingIn}
 use Rattle.image.proofs.walk.walk.Given as goal
 
 abbrev pub invariant-loop-node : goal.invariant-loop-node
 invariant-loop-node l =
-    Walkable l.label l.token l.first l.next l.count × Descending l.label l.token l.first l.next l.image l.kept l.count l.b l.node l.depth l.met × (length l.kept ≡ length l.initial.kept)
+    WalkableIn l.sweep × DescendingIn l.sweep l.kept l.b (record { node = l.node; depth = l.depth; met = l.met }) × (length l.kept ≡ length l.initial.kept)
 
 abbrev pub decreases-loop-node : goal.decreases-loop-node
 decreases-loop-node l = l.b - l.depth

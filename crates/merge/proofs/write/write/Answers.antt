@@ -27,25 +27,25 @@ slice_bounds-copy_from_slice-end-2 c = sym (length-take-le _ _ (front (goal.at.s
 pub copy_from_slice-requires : goal.copy_from_slice-requires
 copy_from_slice-requires c = length-take-le _ _ (front (goal.at.copy_from_slice-requires c).Start) ∙ sym (length-take-le _ _ (omega arith))
 
-pub loop-marks-init : goal.loop-marks-init
-loop-marks-init c =
+pub loop-size-init : goal.loop-size-init
+loop-size-init c =
     let a = c.args in
     rw c.copy_from_slice.ensures.after
     (begins a.first.now a.second.now a.out.now c.requires.first_value c.requires.second_in_bounds _ refl)
 
 -- A turn's record ends within the book, and there is a mark for it.
 module _ (c : Else-size-eq0) where
-  inside : c.loop-marks.at + 1 + c.body_at-size.result ≤ length c.args.second.now
-  inside = walk_inside c.loop-marks.invariant.walk _ c.body_at-size.ensures c.if-size-eq0.false
+  inside : c.loop-size.at + 1 + c.body_at-size.result ≤ length c.args.second.now
+  inside = walk_inside c.loop-size.invariant.walk _ c.body_at-size.ensures c.if-size-eq0.false
 
-  marked : c.loop-marks.i < max_tokens
-  marked = omega (arith, c.requires.second_len_bound.0, walk-some c.loop-marks.invariant.walk _ c.body_at-size.ensures c.if-size-eq0.false)
+  marked : c.loop-size.i < max_tokens
+  marked = omega (arith, c.requires.second_len_bound.0, walk-some c.loop-size.invariant.walk _ c.body_at-size.ensures c.if-size-eq0.false)
 
 pub overflow_add-end : goal.overflow_add-end
 overflow_add-end c = omega (arith, inside c)
 
-pub overflow_add-end-in-loop-marks : goal.overflow_add-end-in-loop-marks
-overflow_add-end-in-loop-marks c = omega (arith, inside c)
+pub overflow_add-end-in-loop-size : goal.overflow_add-end-in-loop-size
+overflow_add-end-in-loop-size c = omega (arith, inside c)
 
 pub slice_bounds-put-end : goal.slice_bounds-put-end
 slice_bounds-put-end c = omega (arith, inside (goal.at.slice_bounds-put-end c).Else-size-eq0)
@@ -55,27 +55,27 @@ bounds-marks-i c = marked (goal.at.bounds-marks-i c).Else-size-eq0
 
 pub put-to-requires : goal.put-to-requires
 put-to-requires c =
-    part-fits c.loop-marks.invariant _ c.body_at-size.ensures c.if-size-eq0.false c.args.marks c.requires.second_len_bound.1
+    part-fits c.loop-size.invariant _ c.body_at-size.ensures c.if-size-eq0.false c.args.marks.now c.requires.second_len_bound.1
 
 pub overflow_add-i : goal.overflow_add-i
 overflow_add-i c = omega (arith, marked (goal.at.overflow_add-i c).Else-size-eq0)
 
-pub loop-marks-smaller : goal.loop-marks-smaller
-loop-marks-smaller c = omega (arith, inside (goal.at.loop-marks-smaller c).Else-size-eq0)
+pub loop-size-smaller : goal.loop-size-smaller
+loop-size-smaller c = omega (arith, inside (goal.at.loop-size-smaller c).Else-size-eq0)
 
-pub loop-marks-preserved : goal.loop-marks-preserved
-loop-marks-preserved c =
+pub loop-size-preserved : goal.loop-size-preserved
+loop-size-preserved c =
     let y = c.put-to in
     rw y.ensures.0
-    (again c.loop-marks.invariant _ c.body_at-size.ensures c.if-size-eq0.false c.args.marks c.requires.second_len_bound.1 y.new.out y.ensures.1)
+    (again c.loop-size.invariant _ c.body_at-size.ensures c.if-size-eq0.false c.args.marks.now c.requires.second_len_bound.1 y.new.out y.ensures.1)
 
 pub bounds-out-to : goal.bounds-out-to
-bounds-out-to c = to_inside c.loop-marks.invariant
+bounds-out-to c = to_inside c.loop-size.invariant
 
 pub returns : goal.returns
 returns c =
     let a = c.args in
-    done c.loop-marks.invariant (sym c.body_at-size.ensures ∙ c.if-size-eq0.true) a.out.now
+    done c.loop-size.invariant (sym c.body_at-size.ensures ∙ c.if-size-eq0.true) a.out.now
     (rw c.copy_from_slice.ensures.after (copied a.first.now a.second.now a.out.now c.requires.first_value c.requires.second_in_bounds _ refl))
 
 pub shape_of-out : goal.shape_of-out

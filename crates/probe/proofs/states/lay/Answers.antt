@@ -1,7 +1,7 @@
--- The stores one after the other, as one list laid over the numbers.
+-- The state's numbers, in the place of the first.
 use borrow.Author.Rules.{rules}
-use Rattle.probe.proofs.Laws.States.{laying}
+use Rattle.std.proofs.Common.{◌≡◌, ◌∙◌, sym, length, length-take-le}
 use Rattle.probe.proofs.states.lay.Goals as goal
 
-pub returns : goal.returns
-returns c = laying c.args.s c.due_number.result c.args.numbers.now (search rules) c.due_number.ensures c.requires
+pub copy_from_slice-requires : goal.copy_from_slice-requires
+copy_from_slice-requires c = let h : length c.numbers_of.result ≡ 26 = search rules in length-take-le _ _ c.requires ∙ sym h

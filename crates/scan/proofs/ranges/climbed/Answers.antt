@@ -8,9 +8,9 @@ loop-at-init c = (c.requires, record { below = c.requires.below; sum = omega ari
 pub overflow_add-n-in-loop-at : goal.overflow_add-n-in-loop-at
 overflow_add-n-in-loop-at c = let i = c.loop-at.invariant in
     let r = c.run_end-end.ensures in
-    omega (arith, climb-room i.0.rises (climb-runs i.1 r) (λ z. omega (arith, r.bound)))
+    omega (arith, climb-room i.0.tree.falling (climb-runs i.1 r) (λ z. omega (arith, r.bound)))
 
 pub loop-at-preserved : goal.loop-at-preserved
 loop-at-preserved c = let i = c.loop-at.invariant in
     let r = c.run_end-end.ensures in
-    (i.0, climb-again i.0.rises (climb-runs i.1 r) (λ z. omega (arith, r.bound)) _ _ c.wide-at.ensures (omega arith))
+    (i.0, climb-again i.0.tree.falling (climb-runs i.1 r) (λ z. omega (arith, r.bound)) _ _ c.from-at.ensures (omega arith))

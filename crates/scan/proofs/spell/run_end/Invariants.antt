@@ -1,9 +1,10 @@
 -- `run_end` meets its contract: each turn goes to the node before, its parent.
+use Rattle.trie.specs.Lent.{tables_of}
 use Rattle.scan.specs.Ways.{Climbs, Run}
 use Rattle.scan.proofs.spell.run_end.Given as goal
 
 abbrev pub invariant-loop-at : goal.invariant-loop-at
-invariant-loop-at l = (s : Climbs l.parent l.node) × Run l.parent l.node l.low l.at
+invariant-loop-at l = let t = tables_of l.tables in Climbs t l.node × Run t l.node l.low l.at
 
 abbrev pub decreases-loop-at : goal.decreases-loop-at
 decreases-loop-at l = l.at

@@ -1,36 +1,36 @@
-use Rattle.trie.specs.Answers.{tables}
-use Rattle.scan.proofs.Laws.StepsSettle.{Onwards, runs-marked, runs-told, runs-over, runs-wants, runs-ends, runs-takes}
+use Rattle.trie.specs.Lent.{tables_of}
+use Rattle.scan.proofs.Laws.StepsSettle.{Onwards, runs-climbs, runs-told, runs-over, runs-wants, runs-ends, runs-takes}
 use Rattle.scan.proofs.steps.settle.Goals as goal
 
 -- The run goes on after a round has ended,
 ends : (c : goal.After-end_round-at) → let a = c.args in
-    Onwards (tables a.parent.now a.label.now a.token.now a.first.now a.next.now a.shift.now) a.scan c.loop-at.at c.end_round-at.result
-ends c = let a = c.args in
+    Onwards (tables_of a.tables.now) a.scan c.loop-at.at c.end_round-at.result
+ends c =
     let r = c.end_round-at in
-    runs-ends c.loop-at.invariant c.if-at-ne0.false (rw c.in-End.is at (c.choose.ensures a.token.now a.next.now a.shift.now)) r.result
-    (r.ensures a.first.now a.next.now)
+    runs-ends c.loop-at.invariant c.if-at-ne0.false (rw c.in-End.is at c.choose.ensures) r.result
+    r.ensures
 
 -- and after a byte was taken.
 takes : (c : goal.After-take_byte-at) → let a = c.args in
-    Onwards (tables a.parent.now a.label.now a.token.now a.first.now a.next.now a.shift.now) a.scan c.loop-at.at c.take_byte-at.result
-takes c = let a = c.args in
+    Onwards (tables_of a.tables.now) a.scan c.loop-at.at c.take_byte-at.result
+takes c =
     runs-takes c.loop-at.invariant c.if-at-ne0.false c.in-Take.x
-    (rw c.in-Take.is at (c.choose.ensures a.token.now a.next.now a.shift.now)) c.take_byte-at.result (rw c.one_more.ensures at c.take_byte-at.ensures)
+    (rw c.in-Take.is at c.choose.ensures) c.take_byte-at.result (rw c.one_more.ensures at c.take_byte-at.ensures)
 
 pub tell-requires : goal.tell-requires
-tell-requires c = runs-marked c.loop-at.invariant c.if-at-ne0.true
+tell-requires c = runs-climbs c.loop-at.invariant c.if-at-ne0.true
 
 pub returns-then-at-ne0 : goal.returns-then-at-ne0
 returns-then-at-ne0 c = runs-told c.loop-at.invariant c.if-at-ne0.true c.tell.result c.tell.ensures
 
 pub returns-in-Finished : goal.returns-in-Finished
-returns-in-Finished c = let a = c.args in
-    runs-over c.loop-at.invariant c.if-at-ne0.false (rw c.in-Finished.is at (c.choose.ensures a.token.now a.next.now a.shift.now))
+returns-in-Finished c =
+    runs-over c.loop-at.invariant c.if-at-ne0.false (rw c.in-Finished.is at c.choose.ensures)
 
 pub returns-in-Wants : goal.returns-in-Wants
-returns-in-Wants c = let a = c.args in
+returns-in-Wants c =
     runs-wants c.loop-at.invariant c.if-at-ne0.false c.in-Wants.place
-    (rw c.in-Wants.is at (c.choose.ensures a.token.now a.next.now a.shift.now))
+    (rw c.in-Wants.is at c.choose.ensures)
 
 pub loop-at-preserved-in-End : goal.loop-at-preserved-in-End
 loop-at-preserved-in-End c = (ends c).0

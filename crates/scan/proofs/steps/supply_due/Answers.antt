@@ -1,4 +1,4 @@
-use Rattle.trie.specs.Answers.{tables}
+use Rattle.trie.specs.Lent.{tables_of}
 use Rattle.scan.proofs.Laws.StepsSupply.{counted-steps, taken-goes}
 use Rattle.scan.proofs.steps.supply_due.Goals as goal
 
@@ -6,13 +6,13 @@ use Rattle.scan.proofs.steps.supply_due.Goals as goal
 pub take_byte-state-requires : goal.take_byte-state-requires
 take_byte-state-requires c =
     let a = c.args in
-    let lent = tables a.parent.now a.label.now a.token.now a.first.now a.next.now a.shift.now in
+    let lent = tables_of a.tables.now in
     let n = c.count_byte-counted in
     counted-steps lent a.scan a.byte c.requires n.result n.ensures
 
 pub settle-requires : goal.settle-requires
 settle-requires c =
     let a = c.args in
-    let lent = tables a.parent.now a.label.now a.token.now a.first.now a.next.now a.shift.now in
+    let lent = tables_of a.tables.now in
     let n = c.count_byte-counted in
     taken-goes lent a.scan a.byte c.requires n.result n.ensures c.take_byte-state.result c.take_byte-state.ensures

@@ -1,37 +1,33 @@
 use Prim.Native.Nat.{◌-◌}
 use native.Mathlib.Omega.{arith}
 use mathlib.Core.Path.{sym, ◌∙◌}
+use Rattle.trie.specs.Lent.{tables_of}
 use Rattle.rules.specs.Rules.{left_over}
 use Rattle.rules.proofs.Laws.Limit.Span.{cut-ge}
 use Rattle.scan.specs.State.{used}
 use Rattle.scan.proofs.Laws.StretchesRemember.{Ended, new-before, ends-full, ends-dropped, ends-put}
 use Rattle.scan.proofs.stretches.remember.Goals as goal
+use Rattle.scan.proofs.stretches.remember.Goals.{After-lift, then-f-ge5-via-then-f-ge5, then-f-ge5-via-else-f-ge5+then-not-kept_at}
 
 pub overflow_sub-left : goal.overflow_sub-left
-overflow_sub-left c = let a = c.args in
-    omega (arith, c.edge-left.ensures, cut-ge (a.boundary - a.depth) (left_over (a.boundary - a.depth) (used a.slots)))
+overflow_sub-left c =
+    let s = c.args.scan.now in
+    omega (arith, c.edge-left.ensures, cut-ge (s.boundary - s.depth) (left_over (s.boundary - s.depth) (used s.stretches)))
+
+-- how the round ended, as far as it is found
+ended : (c : After-lift) → Ended (tables_of c.args.tables.now) c.args.scan.now c.args.next c.edge-left.result c.lift.result c.held-f.result
+ended c = record { goes = c.requires.goes; moves = c.requires.moves; edge = c.edge-left.ensures; lift = c.lift.ensures; held = c.held-f.ensures }
 
 pub returns-then-f-ge5 : goal.returns-then-f-ge5
 returns-then-f-ge5 c =
-    let ended : let a = c.args in Ended a.parent.now (used a.slots) a.node a.depth a.boundary a.next c.edge-left.result c.lift.result c.held-f.result =
-    record { ends = c.requires.numbers; lie = c.requires.lies; edge = c.edge-left.ensures; lift = c.lift.ensures; held = c.held-f.ensures } in
-    ends-full ended c.if-f-ge5.true
+    let e = ended (goal.at.returns-then-f-ge5 c).After-lift in
+    elim c.then-f-ge5.branch [
+      | then-f-ge5-via-then-f-ge5 w ↦ ends-full e w.if-f-ge5.true
+      | then-f-ge5-via-else-f-ge5+then-not-kept_at w ↦ ends-dropped e (sym w.kept_at.ensures ∙ w.if-not-kept_at.true)
+    ]
 
-pub keeps-requires : goal.keeps-requires
-keeps-requires c =
-    let ended : let a = c.args in Ended a.parent.now (used a.slots) a.node a.depth a.boundary a.next c.edge-left.result c.lift.result c.held-f.result =
-    record { ends = c.requires.numbers; lie = c.requires.lies; edge = c.edge-left.ensures; lift = c.lift.ensures; held = c.held-f.ensures } in
-    new-before ended
-
-pub returns-then-not-keeps : goal.returns-then-not-keeps
-returns-then-not-keeps c =
-    let ended : let a = c.args in Ended a.parent.now (used a.slots) a.node a.depth a.boundary a.next c.edge-left.result c.lift.result c.held-f.result =
-    record { ends = c.requires.numbers; lie = c.requires.lies; edge = c.edge-left.ensures; lift = c.lift.ensures; held = c.held-f.ensures } in
-    ends-dropped ended (sym c.keeps.ensures ∙ c.if-not-keeps.true)
+pub kept_at-requires : goal.kept_at-requires
+kept_at-requires c = new-before (ended (goal.at.kept_at-requires c).After-lift)
 
 pub returns : goal.returns
-returns c =
-    let ended : let a = c.args in Ended a.parent.now (used a.slots) a.node a.depth a.boundary a.next c.edge-left.result c.lift.result c.held-f.result =
-    record { ends = c.requires.numbers; lie = c.requires.lies; edge = c.edge-left.ensures; lift = c.lift.ensures; held = c.held-f.ensures } in
-    ends-put ended (sym c.keeps.ensures ∙ c.if-not-keeps.false)
-    c.put.result c.put.ensures
+returns c = ends-put (ended (goal.at.returns c).After-lift) (sym c.kept_at.ensures ∙ c.if-not-kept_at.false) c.put.result c.put.ensures

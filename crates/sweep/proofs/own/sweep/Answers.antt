@@ -17,4 +17,4 @@ zeros-long = let l : length {A = ℕ} (replicate 16385 0) ≡ 16385 = length-rep
 pub returns : goal.returns
 returns c = let a = c.args in
     let k = c.sweep_image in
-    finds a.book.now a.image.now zeros a.ends.now a.tokens.now c.requires.0 c.requires.1 zeros-long k.result _ _ _ k.ensures
+    finds a.book.now a.image.now zeros a.hits.now.ends a.hits.now.tokens c.requires.0 c.requires.1 zeros-long k.result _ _ _ k.ensures.answer

@@ -1,17 +1,15 @@
--- `child` meets its contract: the walk finds what `child_by` finds.
-use mathlib.Core.List.{[]}
-use mathlib.Core.Path.{sym, ◌∙◌}
-use Rattle.trie.specs.Answers.{tree_only}
-use Rattle.trie.specs.declared.chain.Way.TheVariants.{Found, Ends}
+use Rattle.std.proofs.Common.{Ok, Err, sym, ◌∙◌}
+use Rattle.trie.specs.Lent.{tables_of}
 use Rattle.trie.proofs.Laws.Chain.{walked-child}
 use Rattle.trie.proofs.chain.child.Goals as goal
 
-pub returns-in-Found : goal.returns-in-Found
-returns-in-Found c = let a = c.args in
-    walked-child (tree_only [] a.label.now [] a.first.now a.next.now) a.byte a.count a.node _ (Found _) c.entry.ensures
-    (sym c.in-Found.is ∙ c.walk.ensures)
+-- `child` meets its contract: the walk finds what `child_by` finds.
+pub returns-in-Ok : goal.returns-in-Ok
+returns-in-Ok c = let a = c.args in
+    walked-child (tables_of a.tables.now) a.byte a.count a.node _ (Ok _) c.entry.ensures.0
+    (sym c.in-Ok.is ∙ c.walk.ensures)
 
-pub returns-in-Ends : goal.returns-in-Ends
-returns-in-Ends c = let a = c.args in
-    walked-child (tree_only [] a.label.now [] a.first.now a.next.now) a.byte a.count a.node _ (Ends _) c.entry.ensures
-    (sym c.in-Ends.is ∙ c.walk.ensures)
+pub returns-in-Err : goal.returns-in-Err
+returns-in-Err c = let a = c.args in
+    walked-child (tables_of a.tables.now) a.byte a.count a.node _ (Err _) c.entry.ensures.0
+    (sym c.in-Err.is ∙ c.walk.ensures)

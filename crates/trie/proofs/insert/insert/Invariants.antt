@@ -1,13 +1,11 @@
 -- `insert` meets its contract: the bytes left make of the tables here what the whole word makes of those lent (`Inserting`).
-use Rattle.trie.specs.Answers.{tree_only}
-use Rattle.trie.specs.InPlace.{reversed_if}
+use Prim.Native.Nat.{◌-◌}
+use lib.ListN.{length}
+use Rattle.trie.specs.Lent.{written_of, word_of, SameMemory}
 use Rattle.trie.proofs.Laws.WordInPlace.{Inserting}
 use Rattle.trie.proofs.insert.insert.Given as goal
 
-abbrev pub invariant-loop-left : goal.invariant-loop-left
-invariant-loop-left l =
-    Inserting (reversed_if l.reversed l.body) (tree_only l.initial.parent l.initial.label l.initial.token l.initial.first l.initial.next) l.count (tree_only l.parent l.label l.token l.first l.next) l.nodes l.node l.left
-
-abbrev pub decreases-loop-left : goal.decreases-loop-left
-decreases-loop-left l =
-    l.left
+abbrev pub invariant-loop-i : goal.invariant-loop-i
+invariant-loop-i l =
+    Inserting (word_of l.word) (written_of l.initial.tables) l.count (written_of l.tables) l.place.count l.place.node (length l.word.body.now - l.i)
+    × SameMemory l.initial.tables l.tables

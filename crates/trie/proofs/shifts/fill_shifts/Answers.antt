@@ -1,9 +1,10 @@
--- `fill_shifts` meets its contract: the walks of all words, and handing down, from entries S and the root's 1.
-use native.Mathlib.Omega.{arith}
+use Rattle.std.proofs.Common.{[], refl, arith}
 use lib.ListN.{length-replicate}
+use Rattle.trie.specs.Answers.{tree_only}
 use Rattle.trie.proofs.Laws.Shifts.{shortest-near, nodes-within, parents-fall, shifts-walk, shifts-filled}
 use Rattle.trie.proofs.shifts.fill_shifts.Goals as goal
 
+-- `fill_shifts` meets its contract: the walks of all words, and handing down, from entries S and the root's 1.
 pub overflow_cast-whole : goal.overflow_cast-whole
 overflow_cast-whole c = omega (arith, shortest-near c.requires)
 
@@ -12,9 +13,10 @@ begin-requires c = let g = c.requires in ((nodes-within g).0, g.room, omega (ari
 
 pub walk_book-requires : goal.walk_book-requires
 walk_book-requires c =
+    let a = c.args in
     let g = c.requires in
     record {
-      walks = shifts-walk g _ _ _ c.root_children-kids.ensures (omega (arith, g.room, c.begin.auto.shift)) (rw length-replicate (nodes-within g).1);
+      walks = shifts-walk g (tree_only a.parent.now a.label.now [] a.first.now a.next.now) refl refl refl _ _ _ c.root_children.ensures (omega (arith, g.room, c.begin.auto.shift)) (rw length-replicate (nodes-within g).1);
       book = g.given;
     }
 
@@ -27,5 +29,6 @@ hand_down-requires c =
       falls = parents-fall g;
     }
 
-pub returns : goal.returns
-returns c = shifts-filled c.requires _ c.begin.ensures _ c.walk_book.ensures _ c.hand_down.ensures
+pub returns-clause-filled : goal.returns-clause-filled
+returns-clause-filled c = let a = c.args in
+    shifts-filled c.requires (tree_only a.parent.now a.label.now [] a.first.now a.next.now) refl refl refl _ c.begin.ensures _ c.walk_book.ensures _ c.hand_down.ensures

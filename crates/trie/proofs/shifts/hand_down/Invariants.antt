@@ -1,5 +1,4 @@
 -- `hand_down` meets its contract: the nodes from v on are still to come (`Handing`).
-use Prim.Native.Nat.{◌-◌}
 use mathlib.Core.Path.{◌≡◌}
 use lib.ListN.{length}
 use Rattle.trie.specs.Filling.{lows}
@@ -9,6 +8,3 @@ use Rattle.trie.proofs.shifts.hand_down.Given as goal
 abbrev pub invariant-loop-v : goal.invariant-loop-v
 invariant-loop-v l =
     Handing l.parent l.count (lows l.initial.met l.initial.whole) (lows l.met l.whole) l.v × (length l.met ≡ length l.initial.met) × (length l.whole ≡ length l.initial.whole)
-
-abbrev pub decreases-loop-v : goal.decreases-loop-v
-decreases-loop-v l = l.count - l.v
