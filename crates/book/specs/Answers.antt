@@ -28,6 +28,11 @@ pub record Amounts (t : Totals) (tokens : List (List ℕ)) : Type 0 where
   pub shortest : t.shortest ≡ shortest_of tokens
   pub longest : t.longest ≡ longest_of tokens
 
+-- An answer, where a refusal's number and value are told by `told`.
+abbrev pub answered_by : {A E : Type 0} → (E → ℕ × ℕ) → Result A E → Verdict A
+answered_by told (Ok a) = accepted a
+answered_by told (Err why) = refused (told why).0 (told why).1
+
 abbrev pub verdict_of : Result Totals Refusal → Verdict book.Totals
 verdict_of (Ok t) = accepted (totalled t)
 verdict_of (Err r) = refused (refusal_of r).0 (refusal_of r).1

@@ -2,6 +2,7 @@
 #![tactic(auto)]
 
 mod filter;
+mod numbers;
 pub mod records;
 mod repeats;
 mod sums;
@@ -14,6 +15,7 @@ ghost use Rattle.book.specs.Book.{whole_at, bodies_in, closed, read_book, summar
 ghost use Rattle.book.specs.Answers.{Amounts, refusal_of, verdict_of, place_of};
 
 use filter::CELLS;
+pub use numbers::Outcome;
 use records::{Bodies, body_length};
 use repeats::repeated;
 use words::{is_word, weight};

@@ -3,13 +3,13 @@
 
 mod stands;
 
-ghost use Rattle.std.specs.Prelude.{◌≡◌};
+ghost use Rattle.std.specs.Prelude.{◌≡◌, Err};
 ghost use Rattle.book.specs.Book.{refusal_in, read_book};
 ghost use Rattle.fitting.specs.Fitting.{fit_in};
 ghost use Rattle.fitting.specs.Answers.{fitting_of};
 ghost use Rattle.fitting.specs.declared.Refusal.TheVariants.{Unread};
 
-use book::{Book, Numbered};
+use book::{Book, Numbered, Outcome};
 pub use stands::Fit;
 use stands::fit_at;
 
@@ -41,6 +41,14 @@ impl Refusal {
                 value: 0,
             },
         }
+    }
+}
+
+impl Outcome for Refusal {
+    ghost numbers = { λ refusal. refusal_in (fitting_of (Err refusal)) };
+
+    fn numbered(self) -> Numbered {
+        Refusal::numbered(self)
     }
 }
 

@@ -1,4 +1,5 @@
--- What holds of rounds in an image at hand, of the stretches by their places, and of the buffers that take the hits.
+-- What holds of rounds in an image at hand, of the stretches by their places, and of the buffers that take the hits. Numbers: what an answer
+-- tells as an outcome.
 -- For the functions' proofs:
 -- Each module serves that of src/ whose name it begins with; `SweepImage` serves `lib.rt`.
 pub mod Loose
@@ -27,3 +28,4 @@ pub mod TurnAttempt
 pub mod Rounds
 pub mod RoundsSweep
 pub mod SweepImage
+pub mod Numbers

@@ -19,7 +19,7 @@ ghost use Rattle.whole.specs.Image.{counted, sweep_image};
 ghost use Rattle.image.specs.Hits.{SameBuffers};
 ghost use Rattle.image.specs.Results.{refusal_of, swept_of, fetched_of, spared_of, refusal_for};
 
-use book::{Book, Numbered};
+use book::{Book, Numbered, Outcome};
 use given::Sweep;
 pub use hits::HitsMut;
 use trie::TablesMut;
@@ -60,6 +60,14 @@ impl Refusal {
                 value: found.hits,
             },
         }
+    }
+}
+
+impl Outcome for Refusal {
+    ghost numbers = { refusal_of };
+
+    fn numbered(self) -> Numbered {
+        Refusal::numbered(self)
     }
 }
 

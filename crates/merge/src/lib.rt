@@ -4,14 +4,14 @@
 mod survey;
 mod write;
 
-ghost use Rattle.std.specs.Prelude.{◌≡◌};
+ghost use Rattle.std.specs.Prelude.{◌≡◌, Err};
 ghost use Rattle.book.specs.Book.{refusal_in, bodies_in};
 ghost use Rattle.merge.specs.Merge.{verdict, join, merge};
 ghost use Rattle.merge.specs.Answers.{answer_of};
 ghost use Rattle.merge.specs.Steps.{Books};
 ghost use Rattle.merge.specs.declared.Refusal.TheVariants.{Unread};
 
-use book::{Numbered, Totals};
+use book::{Numbered, Outcome, Totals};
 use survey::survey;
 use write::write;
 
@@ -45,6 +45,14 @@ impl Refusal {
                 value: length,
             },
         }
+    }
+}
+
+impl Outcome for Refusal {
+    ghost numbers = { λ refusal. refusal_in (verdict (answer_of (Err refusal))) };
+
+    fn numbered(self) -> Numbered {
+        Refusal::numbered(self)
     }
 }
 

@@ -48,11 +48,10 @@ pub fn carrier(tables: &Tables, node: usize) -> usize
 pub fn owe(scan: Scan, end: usize, v: usize) -> Scan
     ensures { result ≡ owing scan end v }
 {
-    Scan {
-        end: if v == 0 { 0 } else { end },
-        hit: v,
-        ..scan
-    }
+    let mut out = scan;
+    out.end = if v == 0 { 0 } else { end };
+    out.hit = v;
+    out
 }
 
 // Answers the next hit that is left.

@@ -10,14 +10,14 @@ mod spell;
 mod steps;
 mod stretches;
 
-ghost use Rattle.std.specs.Prelude.{◌≡◌};
+ghost use Rattle.std.specs.Prelude.{◌≡◌, Err};
 ghost use Rattle.trie.specs.Lent.{tables_of};
 ghost use Rattle.scan.specs.Start.{started, start};
-ghost use Rattle.scan.specs.Calls.{carry_on, supply};
+ghost use Rattle.scan.specs.Calls.{step_refusal, carry_on, supply};
 ghost use Rattle.scan.specs.Packets.{supply_packet};
-ghost use Rattle.scan.specs.Results.{refusal_of, opened, started_of, stepped_of, delivered_of};
+ghost use Rattle.scan.specs.Results.{refusal_of, answer_of, opened, started_of, stepped_of, delivered_of};
 
-use book::{Book, Numbered};
+use book::{Book, Numbered, Outcome};
 use judge::judge;
 use packets::feed;
 use steps::{settle, supply_due};
@@ -70,7 +70,7 @@ pub enum Refusal {
 
 impl Refusal {
     pub fn numbered(self) -> Numbered
-        ensures { (result.number ≡ (refusal_of self).0) × (result.value ≡ (refusal_of self).1) }
+        ensures { (result.number ≡ (step_refusal (answer_of (Err self))).0) × (result.value ≡ (step_refusal (answer_of (Err self))).1) }
     {
         match self {
             Refusal::TooLong(most) => Numbered {
@@ -94,6 +94,14 @@ impl Refusal {
                 value: 0,
             },
         }
+    }
+}
+
+impl Outcome for Refusal {
+    ghost numbers = { refusal_of };
+
+    fn numbered(self) -> Numbered {
+        Refusal::numbered(self)
     }
 }
 

@@ -32,13 +32,11 @@ pub fn end_round(scan: Scan, tables: &Tables, closing: Option<u8>) -> Scan
         result ≡ stepped t scan (end_round (tree_of t scan) (config_of scan) (option_of closing)) }
 {
     let boundary = scan.boundary + shift::shift(&scan, tables, closing);
-    let out = Scan {
-        boundary,
-        node: 0,
-        depth: 0,
-        stretches: stretches::remember(&scan, tables, boundary),
-        ..scan
-    };
+    let mut out = scan;
+    out.boundary = boundary;
+    out.node = 0;
+    out.depth = 0;
+    out.stretches = stretches::remember(&scan, tables, boundary);
     hits::owe(out, scan.boundary, hits::carrier(tables, scan.node))
 }
 

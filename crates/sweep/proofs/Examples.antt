@@ -1,8 +1,9 @@
 -- Samples of what comes after a read, and of each line's bytes.
-use Rattle.std.specs.Prelude.{◌≡◌, refl, true, false, Ok, Err}
+use Rattle.std.specs.Prelude.{◌≡◌, refl, true, false, [], ◌∷◌, Ok, Err}
+use Rattle.std.specs.List.{range_with_len}
 use Rattle.std.specs.declared.ops.ControlFlow.TheVariants.{Continue, Break}
 use Rattle.sweep.specs.declared.lines.Line.TheVariants.{Image, Hit, End, Refused}
-use Rattle.sweep.specs.Lines.{ascii, line_bytes}
+use Rattle.sweep.specs.Lines.{ascii, line_bytes, hit_lines}
 use Rattle.sweep.specs.Program.{after_read}
 
 -- The four lines.
@@ -17,6 +18,10 @@ end_line_lem = refl
 
 refused-line : line_bytes (Refused (record { number = 8; value = 65536 })) ≡ ascii "refused 8 65536\n"
 refused-line = refl
+
+-- Of three hits the last two, their ends moved by 10.
+hit_lines_lem : hit_lines (record { ends = 3 ∷ 5 ∷ 8 ∷ []; tokens = 1 ∷ 2 ∷ 1 ∷ [] }) 10 (range_with_len 1 2) ≡ ascii "hit 15 2\nhit 18 1\n"
+hit_lines_lem = refl
 
 -- A folder's first read, which fails, is its end, and all others that fail are failures.
 folder-empty : {E : Type 0} (e : E) → after_read (Err e) 0 true ≡ Break (Ok 0)

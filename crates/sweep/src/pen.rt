@@ -1,10 +1,12 @@
 // The lines wait in a buffer, so that few writes are made. After a write that fails nothing more is written, so that a last line means that
 // all lines are there.
-ghost use Rattle.std.specs.Prelude.{◌≤◌, ◌≡◌, ◌++◌, [], take, OnOk};
+ghost use Rattle.std.specs.Prelude.{◌-◌, ◌≤◌, ◌≡◌, ◌++◌, [], length, take, OnOk};
 ghost use Rattle.std.specs.Io.KnownBytes.{Appends, Keeps};
-ghost use Rattle.sweep.specs.Lines.{line_bytes, waiting, waits};
+ghost use Rattle.std.specs.List.{range_with_len};
+ghost use Rattle.sweep.specs.Lines.{line_bytes, hit_lines, waiting, waits};
 ghost use Rattle.sweep.specs.Program.{image_limit};
 ghost use Rattle.sweep.specs.Told.{told};
+ghost use Rattle.sweep.specs.declared.lines.Line.TheVariants.{Image, End};
 
 use crate::hits::{Hits, Part};
 use crate::job::Job;
@@ -66,6 +68,8 @@ impl<W: Write + Drop> Pen<W> {
     // A line for each hit of a part that is not listed yet.
     pub fn hits(&mut self, hits: &Hits, part: Part) -> io::Result<()>
         requires { part.from ≤ image_limit }
+        ensures { OnOk result (Appends (told W.contents self.old) (told W.contents self.new)
+            (hit_lines hits.now part.from (range_with_len part.before (part.hits - part.before)))) }
     {
         for i in part.before..part.hits {
             self.line(hits.line(part.from, i))?;
@@ -82,7 +86,11 @@ impl<W: Write + Drop> Pen<W> {
     }
 
     // The lines of a sweep whose hits are all in the buffers.
-    pub fn whole(&mut self, job: &Job, found: Found, hits: &Hits) -> io::Result<()> {
+    pub fn whole(&mut self, job: &Job, found: Found, hits: &Hits) -> io::Result<()>
+        ensures { OnOk result (Appends (told W.contents self.old) (W.contents self.new.to)
+            (line_bytes (Image (length job.now.image.now) job.now.totals.tokens)
+            ++ hit_lines hits.now 0 (range_with_len 0 found.hits) ++ line_bytes (End found))) }
+    {
         self.line(job.first_line())?;
         self.hits(
             hits,

@@ -5,7 +5,7 @@
 mod breaks;
 pub mod chain;
 mod climbs;
-mod entries;
+pub mod entries;
 mod fill;
 mod grow;
 mod insert;
@@ -18,7 +18,7 @@ ghost use Rattle.tables.specs.Tables.{build};
 ghost use Rattle.trie.specs.Answers.{break_of, refusal_of, answer_of};
 ghost use Rattle.trie.specs.Lent.{written_of, SameMemory};
 
-use book::Numbered;
+use book::{Numbered, Outcome};
 pub use breaks::first_break;
 use fill::fill;
 pub use lent::{Tables, TablesMut};
@@ -38,6 +38,14 @@ impl Broken {
             number: 9,
             value: self.node,
         }
+    }
+}
+
+impl Outcome for Broken {
+    ghost numbers = { break_of };
+
+    fn numbered(self) -> Numbered {
+        Broken::numbered(self)
     }
 }
 
@@ -67,6 +75,14 @@ impl Refusal {
                 value: room,
             },
         }
+    }
+}
+
+impl Outcome for Refusal {
+    ghost numbers = { refusal_of };
+
+    fn numbered(self) -> Numbered {
+        Refusal::numbered(self)
     }
 }
 

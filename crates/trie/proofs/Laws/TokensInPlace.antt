@@ -60,7 +60,7 @@ module _ (t₀ : Tables) (i : ℕ) where
         ∙ ap (λ t. record { tables = t; count = length u'.parent })
         (alike _ (written u' t₀) refl refl (over-set g.tables.token t₀.token g.node i (omega (arith, r.inside, r.sized.tokens))) refl refl refl)
 
-  worded : (ws : List (List ℕ)) (u : Tables) (n : ℕ) → Sized u n → Shape u n → Worded t₀ u n i ws
+  pub worded : (ws : List (List ℕ)) (u : Tables) (n : ℕ) → Sized u n → Shape u n → Worded t₀ u n i ws
   worded [] u n z s = record {
     sized = rw z.parents z;
     shape = rw z.parents s;
@@ -100,7 +100,7 @@ rooted t = record {
   shift = t.shift;
 }
 
-root-written : (t : Tables) → Room t 1 → rooted t ≡ written root_only t
+pub root-written : (t : Tables) → Room t 1 → rooted t ≡ written root_only t
 root-written t r =
     alike (rooted t) (written root_only t) (sym (over-push 0 0 t.parent r.parents)) (sym (over-push 0 0 t.label r.labels))
     (sym (over-push 0 0 t.token r.tokens)) (sym (over-push 0 0 t.first r.firsts)) (sym (over-push 0 0 t.next r.nexts)) refl

@@ -82,7 +82,7 @@ module _ (child : ℕ → ℕ → Option ℕ) (S : ℕ) (body : List ℕ) (l : L
   pub words-two : has_reverse body ≡ true → (l₂ : Lows) → l₂ ≡ word_walked child (reverse body) 1 (S - 1) l₁ → l₂ ≡ words_walked child S (words_of body) l
   words-two h l₂ q = q ∙ ap (word_walked child (reverse body) 1 (S - 1)) e ∙ ap (λ ws. words_walked child S ws l) (sym (words-both body h))
 
-words_append : (child : ℕ → ℕ → Option ℕ) (S : ℕ) (us vs : List (List ℕ)) (l : Lows)
+pub words_append : (child : ℕ → ℕ → Option ℕ) (S : ℕ) (us vs : List (List ℕ)) (l : Lows)
     → words_walked child S (us ++ vs) l ≡ words_walked child S vs (words_walked child S us l)
 words_append child S [] vs l = refl
 words_append child S (u ∷ us) vs l = words_append child S us vs (word_walked child u 1 (S - 1) l)
