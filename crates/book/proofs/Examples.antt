@@ -5,7 +5,7 @@ use Rattle.book.specs.Book.{Reading, accepted, refused, too_long, refusal_in, fo
 use Rattle.book.specs.Bytes.{kind_of, book_of}
 use Rattle.book.specs.Filter.{hash, is_marked, marked, Covers}
 use Rattle.book.specs.declared.Refusal.TheVariants.{Unfinished, UnknownKind, Trailing, Repeat, OverLimits, NoToken}
-use Rattle.book.specs.Answers.{refusal_of, place_of}
+use Rattle.book.specs.Answers.{refusal_of, answered_by, place_of}
 
 -- A book that is read on from its first byte, with the tokens before it, and the refusal.
 record Sample : Type 0 where
@@ -136,6 +136,13 @@ places-right = refl
 -- A book with a repeat is refused, whatever token is asked for.
 unread-right : (let book = read_book (1 ∷ 97 ∷ 1 ∷ 97 ∷ 0 ∷ []) in place_in book 0 ∷ place_in book 1 ∷ []) ≡ unread 4 2 ∷ unread 4 2 ∷ []
 unread-right = refl
+
+-- An answer that is whole, and one that is refused.
+answered-whole : {E : Type 0} (told : E → ℕ × ℕ) → answered_by {A = ℕ} told (Ok 7) ≡ accepted 7
+answered-whole told = refl
+
+answered-refused : answered_by {A = ℕ} refusal_of (Err (OverLimits 9)) ≡ refused 5 9
+answered-refused = refl
 
 -- Each case of a place has its numbers.
 places-told : place_of (Ok (Some (record { at = 7; size = 5 }))) ∷ place_of (Ok None) ∷ place_of (Err (Repeat 9)) ∷ [] ≡ found 7 5 ∷ missing ∷ unread 4 9 ∷ []

@@ -113,7 +113,8 @@ pub fn lay(numbers: &mut [usize], s: &Scan)
     numbers[..NUMBERS].copy_from_slice(&numbers_of(s));
 }
 
-// A step's next state is laid over the numbers it was read from.
+// A step's next state is laid over the numbers it was read from. Inlined, as each step took 20 to 30 ns more with a call.
+#[inline(always)]
 pub fn hand_back(
     numbers: &mut [usize],
     state: &Scan,

@@ -1,13 +1,13 @@
 // The hits of a round that are left to be answered, by the nodes on the way up that carry a token.
 
-ghost use Rattle.std.specs.Prelude.{◌<◌, ◌≡◌};
+ghost use Rattle.std.specs.Prelude.{◌<◌, ◌≡◌, Ok};
 ghost use Rattle.tables.specs.Walks.{carrier};
 ghost use Rattle.trie.specs.Lent.{tables_of};
 ghost use Rattle.scan.specs.Calls.{owing, told};
-ghost use Rattle.scan.specs.Results.{stepped_of};
+ghost use Rattle.scan.specs.Results.{answer_of};
 ghost use Rattle.scan.specs.Ways.{Climbs, Nears};
 
-use crate::{Answer, Scan, Stepped};
+use crate::{Answer, Scan};
 use trie::Tables;
 
 // From a node up, as long as each has the node before it for parent, the first that carries a token, or the last. By counting, since a
@@ -44,25 +44,21 @@ pub fn carrier(tables: &Tables, node: usize) -> usize
     0
 }
 
-// The state with the hits of this end left, that of node v next; none where v is the root.
-pub fn owe(scan: Scan, end: usize, v: usize) -> Scan
-    ensures { result ≡ owing scan end v }
+// The hits of this end are left, that of node v next; none where v is the root.
+pub fn owe(scan: &mut Scan, end: usize, v: usize)
+    ensures { scan.new ≡ owing scan.old end v }
 {
-    let mut out = scan;
-    out.end = if v == 0 { 0 } else { end };
-    out.hit = v;
-    out
+    scan.end = if v == 0 { 0 } else { end };
+    scan.hit = v;
 }
 
-// Answers the next hit that is left.
-pub fn tell(scan: Scan, tables: &Tables) -> Stepped
-    requires { Climbs (tables_of tables.now) scan.hit × (0 < scan.hit) }
-    ensures { stepped_of result ≡ told (tables_of tables.now) scan }
+// Answers the next hit that is left, and leaves those above it.
+pub fn tell(scan: &mut Scan, tables: &Tables) -> Answer
+    requires { Climbs (tables_of tables.now) scan.old.hit × (0 < scan.old.hit) }
+    ensures { record { state = scan.new; answer = answer_of (Ok result) } ≡ told (tables_of tables.now) scan.old }
 {
-    let node = scan.hit;
-    let above = carrier(tables, usize::from(tables.parent[node]));
-    Stepped {
-        state: owe(scan, scan.end, above),
-        answer: Ok(Answer::Hit(scan.end, usize::from(tables.token[node]))),
-    }
+    let Scan { end, hit, .. } = *scan;
+    let above = carrier(tables, usize::from(tables.parent[hit]));
+    owe(scan, end, above);
+    Answer::Hit(end, usize::from(tables.token[hit]))
 }

@@ -25,34 +25,34 @@ pub enum Move {
     Take(u8),
 }
 
-// A round ends: its hits are left, and rules 4 to 6.
-pub fn end_round(scan: Scan, tables: &Tables, closing: Option<u8>) -> Scan
-    requires { Goes (tables_of tables.now) scan }
+// A round ends: its hits are left, and rules 4 to 6. The state is changed in place, as it is large to hand over and back.
+pub fn end_round(scan: &mut Scan, tables: &Tables, closing: Option<u8>)
+    requires { Goes (tables_of tables.now) scan.old }
     ensures { let t = tables_of tables.now in
-        result ≡ stepped t scan (end_round (tree_of t scan) (config_of scan) (option_of closing)) }
+        scan.new ≡ stepped t scan.old (end_round (tree_of t scan.old) (config_of scan.old) (option_of closing)) }
 {
-    let boundary = scan.boundary + shift::shift(&scan, tables, closing);
-    let mut out = scan;
-    out.boundary = boundary;
-    out.node = 0;
-    out.depth = 0;
-    out.stretches = stretches::remember(&scan, tables, boundary);
-    hits::owe(out, scan.boundary, hits::carrier(tables, scan.node))
+    let end = scan.boundary;
+    let hit = hits::carrier(tables, scan.node);
+    let boundary = end + shift::shift(scan, tables, closing);
+    scan.stretches = stretches::remember(scan, tables, boundary);
+    scan.boundary = boundary;
+    scan.node = 0;
+    scan.depth = 0;
+    hits::owe(scan, end, hit);
 }
 
 // Rule 3: the round goes to a child, or ends at the byte.
-pub fn take_byte(scan: Scan, tables: &Tables, byte: u8) -> Scan
-    requires { Stepping (tables_of tables.now) scan }
+pub fn take_byte(scan: &mut Scan, tables: &Tables, byte: u8)
+    requires { Stepping (tables_of tables.now) scan.old }
     ensures { let t = tables_of tables.now in
-        result ≡ stepped t scan (take_byte (tree_of t scan) (config_of scan) byte) }
+        scan.new ≡ stepped t scan.old (take_byte (tree_of t scan.old) (config_of scan.old) byte) }
 {
     match child(tables, scan.count, scan.node, byte) {
         None => end_round(scan, tables, Some(byte)),
-        Some(v) => Scan {
-            node: v,
-            depth: scan.depth + 1,
-            ..scan
-        },
+        Some(v) => {
+            scan.node = v;
+            scan.depth += 1;
+        }
     }
 }
 
@@ -91,7 +91,11 @@ pub fn settle(scan: Scan, tables: &Tables) -> Stepped
     // By hand: these are the steps of the rules.
     loop {
         if at.hit != 0 {
-            return hits::tell(at, tables);
+            let hit = hits::tell(&mut at, tables);
+            return Stepped {
+                state: at,
+                answer: Ok(hit),
+            };
         }
         match choose(&at, tables) {
             Move::Finished => {
@@ -108,25 +112,22 @@ pub fn settle(scan: Scan, tables: &Tables) -> Stepped
                 };
             }
             Move::End => {
-                at = end_round(at, tables, None);
+                end_round(&mut at, tables, None);
             }
             Move::Take(x) => {
                 at.spared = one_more(at.spared);
-                at = take_byte(at, tables, x);
+                take_byte(&mut at, tables, x);
             }
         }
     }
 }
 
-// The state with a byte more supplied, and none due. The count stops, so that a long sweep stays in range.
-fn count_byte(scan: Scan) -> Scan
-    ensures { result ≡ counted scan }
+// One byte more counts as supplied, and none is due. The count stops, so that a long sweep stays in range.
+fn count_byte(scan: &mut Scan)
+    ensures { scan.new ≡ counted scan.old }
 {
-    Scan {
-        due: false,
-        supplied: scan.supplied.saturating_add(1).min(SUPPLIED),
-        ..scan
-    }
+    scan.due = false;
+    scan.supplied = scan.supplied.saturating_add(1).min(SUPPLIED);
 }
 
 // The byte that is due is counted and taken, and the call runs on.
@@ -134,7 +135,8 @@ pub fn supply_due(scan: Scan, tables: &Tables, byte: u8) -> Stepped
     requires { judged (tables_of tables.now) scan true ≡ none }
     ensures { stepped_of result ≡ supply (tables_of tables.now) scan byte }
 {
-    let counted = count_byte(scan);
-    let state = take_byte(counted, tables, byte);
+    let mut state = scan;
+    count_byte(&mut state);
+    take_byte(&mut state, tables, byte);
     settle(state, tables)
 }

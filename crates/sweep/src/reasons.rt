@@ -10,27 +10,36 @@ pub enum Failure {
     Lines(Error),
 }
 
-impl fmt::Display for Failure {
-    fn fmt<W: fmt::Write>(&self, f: &mut fmt::Formatter<W>) -> fmt::Result {
+impl Failure {
+    // What failed, in words, and the reason.
+    fn what_and_why(&self) -> (&'static str, &Error) {
         match self {
-            Failure::Book(why) => write!(f, "cannot read book.bin: {why}"),
-            Failure::Image(why) => write!(f, "cannot read image.bin: {why}"),
-            Failure::Lines(why) => write!(f, "not all lines could be written: {why}"),
+            Failure::Book(why) => ("cannot read book.bin", why),
+            Failure::Image(why) => ("cannot read image.bin", why),
+            Failure::Lines(why) => ("not all lines could be written", why),
         }
     }
 }
 
-// The operating system's words alone: std puts its number behind them.
-fn words(failure: &str) -> &str {
-    failure
-        .rsplit_once(" (os error ")
-        .map_or(failure, |(words, _)| words)
+impl fmt::Display for Failure {
+    fn fmt<W: fmt::Write>(&self, f: &mut fmt::Formatter<W>) -> fmt::Result {
+        let (what, why) = self.what_and_why();
+        write!(f, "{what}: {why}")
+    }
 }
 
-// What failed, with the words of the reason; where there is no memory for the words alone, with the number behind them.
+// The operating system's words alone: std puts its number behind them.
+fn words(reason: &str) -> &str {
+    reason
+        .rsplit_once(" (os error ")
+        .map_or(reason, |(words, _)| words)
+}
+
+// Says what failed, with the words of the reason; where there is no memory for the words alone, with the number behind them.
 pub fn say(rt: &(impl Eprint + AllocGlobal), failure: &Failure) {
-    let _ = match format!(in rt.alloc(); "{failure}") {
-        Ok(text) => eprintln!(rt; "sweep: {}", words(&text)),
+    let (what, why) = failure.what_and_why();
+    let _ = match format!(in rt.alloc(); "{why}") {
+        Ok(reason) => eprintln!(rt; "sweep: {what}: {}", words(&reason)),
         Err(_) => eprintln!(rt; "sweep: {failure}"),
     };
 }

@@ -46,7 +46,9 @@ impl Walks<'_> {
         self.shortest
     }
 
-    // A walk at s, by the word without its last s bytes: down from the root's child for the last of them, which is there.
+    // A walk at s, by the word without its last s bytes: down from the root's child for the last of them, which is there. The loop counts the
+    // bytes that are left: counting up from s + 1 took a quarter more instructions for the costliest book. Inlined as `walk_word` is.
+    #[inline(always)]
     fn walk_at(&self, word: Word<'_>, s: usize, met: &mut [u16], whole: &mut [u16])
         requires walks { MayWalk self.now met.old whole.old }
         requires head { (s < length word.body.now) × (s < 65536) × (head_at self.now.kids (word_of word) s ≡ 0 → ⊥) }
@@ -56,8 +58,9 @@ impl Walks<'_> {
     {
         let mut node = usize::from(self.kids[usize::from(word.from_end(s))]);
         lower(met, node, s);
-        for i in s + 1..word.body.len() {
-            match child(&self.tree, self.count, node, word.from_end(i)) {
+        let last = word.body.len() - 1;
+        for left in (0..last - s).rev() {
+            match child(&self.tree, self.count, node, word.from_end(last - left)) {
                 None => return,
                 Some(v) => {
                     lower(met, v, s);
@@ -68,7 +71,9 @@ impl Walks<'_> {
         lower(whole, node, s);
     }
 
-    // The walks of one word at the shifts from 1 below S.
+    // The walks of one word at the shifts from 1 below S. Inlined, with `walk_at`: as calls they would read through `self`, after each node
+    // that they lower, where each table lies.
+    #[inline(always)]
     fn walk_word(&self, word: Word<'_>, met: &mut [u16], whole: &mut [u16])
         requires walks { MayWalk self.now met.old whole.old }
         requires short { (1 ≤ self.now.shortest) × (self.now.shortest ≤ length word.body.now) × (self.now.shortest < 65536) }

@@ -6,7 +6,7 @@ use Rattle.scan.proofs.steps.end_round.Goals as goal
 pub returns : goal.returns
 returns c =
     let by = c.shift in
-    let kept = c.remember-out in
-    let v = c.carrier in
+    let kept = c.remember-scan in
+    let v = c.carrier-hit in
     ended-state c.requires (option_of c.args.closing) by.result kept.result v.result by.ensures kept.ensures v.ensures
-    c.owe.result c.owe.ensures
+    _ c.owe.ensures

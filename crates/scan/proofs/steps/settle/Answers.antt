@@ -1,27 +1,26 @@
+use Rattle.std.proofs.Common.{Ok}
 use Rattle.trie.specs.Lent.{tables_of}
 use Rattle.scan.proofs.Laws.StepsSettle.{Onwards, runs-climbs, runs-told, runs-over, runs-wants, runs-ends, runs-takes}
 use Rattle.scan.proofs.steps.settle.Goals as goal
 
 -- The run goes on after a round has ended,
-ends : (c : goal.After-end_round-at) → let a = c.args in
-    Onwards (tables_of a.tables.now) a.scan c.loop-at.at c.end_round-at.result
+ends : (c : goal.After-end_round) → let a = c.args in
+    Onwards (tables_of a.tables.now) a.scan c.loop-at.at c.end_round.new.scan
 ends c =
-    let r = c.end_round-at in
-    runs-ends c.loop-at.invariant c.if-at-ne0.false (rw c.in-End.is at c.choose.ensures) r.result
-    r.ensures
+    runs-ends c.loop-at.invariant c.if-at-ne0.false (rw c.in-End.is at c.choose.ensures) _ c.end_round.ensures
 
 -- and after a byte was taken.
-takes : (c : goal.After-take_byte-at) → let a = c.args in
-    Onwards (tables_of a.tables.now) a.scan c.loop-at.at c.take_byte-at.result
+takes : (c : goal.After-take_byte) → let a = c.args in
+    Onwards (tables_of a.tables.now) a.scan c.loop-at.at c.take_byte.new.scan
 takes c =
     runs-takes c.loop-at.invariant c.if-at-ne0.false c.in-Take.x
-    (rw c.in-Take.is at c.choose.ensures) c.take_byte-at.result (rw c.one_more.ensures at c.take_byte-at.ensures)
+    (rw c.in-Take.is at c.choose.ensures) _ (rw c.one_more.ensures at c.take_byte.ensures)
 
-pub tell-requires : goal.tell-requires
-tell-requires c = runs-climbs c.loop-at.invariant c.if-at-ne0.true
+pub tell-hit-requires : goal.tell-hit-requires
+tell-hit-requires c = runs-climbs c.loop-at.invariant c.if-at-ne0.true
 
 pub returns-then-at-ne0 : goal.returns-then-at-ne0
-returns-then-at-ne0 c = runs-told c.loop-at.invariant c.if-at-ne0.true c.tell.result c.tell.ensures
+returns-then-at-ne0 c = runs-told c.loop-at.invariant c.if-at-ne0.true (record { state = c.tell-hit.new.scan; answer = Ok c.tell-hit.result }) c.tell-hit.ensures
 
 pub returns-in-Finished : goal.returns-in-Finished
 returns-in-Finished c =

@@ -5,5 +5,5 @@ pub returns-in-Some : goal.returns-in-Some
 returns-in-Some c =
     let a = c.args in
     let k = c.child in
-    took-on _ a.scan a.byte k.result k.ensures
+    took-on _ a.scan.now a.byte k.result k.ensures
     c.in-Some.v c.in-Some.is c.requires
