@@ -12,8 +12,8 @@ pub enum Fit {
     CutOff,
 }
 
-// How the body stands at an end within the image: one comparison, from the right. Not inlined: within `fit` the loop of `agree::mismatch` took
-// an instruction more a byte.
+// How the body stands at an end within the image: one comparison, from the right. Not inlined: within `fit` the loop of `agree::mismatch`
+// took an instruction more a byte.
 #[inline(never)]
 pub fn fit_at(body: &[u8], image: &[u8], end: usize) -> Fit
     requires { end ≤ length image.now }

@@ -1,10 +1,10 @@
 // The hits of a round that are left to be answered, by the nodes on the way up that carry a token.
 
-ghost use Rattle.std.specs.Prelude.{◌<◌, ◌≡◌, Ok};
+ghost use Rattle.std.specs.Prelude.{◌<◌, ◌≡◌};
 ghost use Rattle.tables.specs.Walks.{carrier};
 ghost use Rattle.trie.specs.Lent.{tables_of};
 ghost use Rattle.scan.specs.Calls.{owing, told};
-ghost use Rattle.scan.specs.Results.{answer_of};
+ghost use Rattle.scan.specs.Results.{said_of};
 ghost use Rattle.scan.specs.Ways.{Climbs, Nears};
 
 use crate::{Answer, Scan};
@@ -55,7 +55,7 @@ pub fn owe(scan: &mut Scan, end: usize, v: usize)
 // Answers the next hit that is left, and leaves those above it.
 pub fn tell(scan: &mut Scan, tables: &Tables) -> Answer
     requires { Climbs (tables_of tables.now) scan.old.hit × (0 < scan.old.hit) }
-    ensures { record { state = scan.new; answer = answer_of (Ok result) } ≡ told (tables_of tables.now) scan.old }
+    ensures { record { state = scan.new; answer = said_of result } ≡ told (tables_of tables.now) scan.old }
 {
     let Scan { end, hit, .. } = *scan;
     let above = carrier(tables, usize::from(tables.parent[hit]));

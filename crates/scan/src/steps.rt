@@ -91,10 +91,10 @@ pub fn settle(scan: Scan, tables: &Tables) -> Stepped
     // By hand: these are the steps of the rules.
     loop {
         if at.hit != 0 {
-            let hit = hits::tell(&mut at, tables);
+            let answer = hits::tell(&mut at, tables);
             return Stepped {
                 state: at,
-                answer: Ok(hit),
+                answer: Ok(answer),
             };
         }
         match choose(&at, tables) {

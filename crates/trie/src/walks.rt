@@ -47,7 +47,7 @@ impl Walks<'_> {
     }
 
     // A walk at s, by the word without its last s bytes: down from the root's child for the last of them, which is there. The loop counts the
-    // bytes that are left: counting up from s + 1 took a quarter more instructions for the costliest book. Inlined as `walk_word` is.
+    // bytes that are left: counting up from s + 1 took a quarter more instructions for the costliest book. Inlined: see `walk_word`.
     #[inline(always)]
     fn walk_at(&self, word: Word<'_>, s: usize, met: &mut [u16], whole: &mut [u16])
         requires walks { MayWalk self.now met.old whole.old }
@@ -71,8 +71,8 @@ impl Walks<'_> {
         lower(whole, node, s);
     }
 
-    // The walks of one word at the shifts from 1 below S. Inlined, with `walk_at`: as calls they would read through `self`, after each node
-    // that they lower, where each table lies.
+    // The walks of one word at the shifts from 1 below S. Inlined as `walk_at` is, so that where each table lies is not read through `self`
+    // after each node that is lowered.
     #[inline(always)]
     fn walk_word(&self, word: Word<'_>, met: &mut [u16], whole: &mut [u16])
         requires walks { MayWalk self.now met.old whole.old }

@@ -16,11 +16,11 @@ takes c =
     runs-takes c.loop-at.invariant c.if-at-ne0.false c.in-Take.x
     (rw c.in-Take.is at c.choose.ensures) _ (rw c.one_more.ensures at c.take_byte.ensures)
 
-pub tell-hit-requires : goal.tell-hit-requires
-tell-hit-requires c = runs-climbs c.loop-at.invariant c.if-at-ne0.true
+pub tell-answer-requires : goal.tell-answer-requires
+tell-answer-requires c = runs-climbs c.loop-at.invariant c.if-at-ne0.true
 
 pub returns-then-at-ne0 : goal.returns-then-at-ne0
-returns-then-at-ne0 c = runs-told c.loop-at.invariant c.if-at-ne0.true (record { state = c.tell-hit.new.scan; answer = Ok c.tell-hit.result }) c.tell-hit.ensures
+returns-then-at-ne0 c = runs-told c.loop-at.invariant c.if-at-ne0.true (record { state = c.tell-answer.new.scan; answer = Ok c.tell-answer.result }) c.tell-answer.ensures
 
 pub returns-in-Finished : goal.returns-in-Finished
 returns-in-Finished c =
